@@ -1,0 +1,4 @@
+pub mod Result
+pub mod Segments
+pub mod Target
+pub mod Objects

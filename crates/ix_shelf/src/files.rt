@@ -1,0 +1,60 @@
+//! Whole files of a shelf.
+
+ghost use Rattle.std.specs.Prelude.{◌≡◌, ◌≢◌, ◌≤◌, ◌⊎◌, ◌^◌, length, take, drop, vec_len, option_map, Err, IfOk, OnOk, IfErr, OnErr, IsErrOf};
+ghost use Rattle.ix_shelf.specs.Shelf.{with_file, Rose, IsAbsent, IsWholeFile, IsTooLarge, LeavesPrefix};
+
+use crate::shelf::Shelf;
+use std::alloc::Global;
+use thiserror::Error;
+
+/// Why a file could not be read or written as a whole.
+#[derive(Clone, Copy, Debug, PartialEq, Eq, Error)]
+pub enum FileFault {
+    /// The file isn't there, or a read of it failed.
+    #[error("the file can't be read")]
+    Read,
+    /// The file is longer than 2^30 bytes.
+    #[error("the file is longer than 2^30 bytes")]
+    TooLarge,
+    /// A create or an append failed.
+    #[error("the file can't be written")]
+    Write,
+    /// Out of memory.
+    #[error("out of memory")]
+    Memory,
+}
+
+/// The longest file that is read: 2^30 bytes.
+pub const MOST_BYTES: usize = 1 << 30;
+
+/// The bytes of a file to its end.
+///
+/// `Read` comes only where the count of read faults rose in this call, or where the shelf tells its files and has
+/// none of that name; `TooLarge` only where the file has a byte past 2^30, and there a file is never read; `Write` never.
+pub fn read_file<S: Shelf>(alloc: Global, shelf: &mut S, name: &str) -> Result<Vec<u8>, FileFault>
+    ensures files { S.files shelf.new ≡ S.files shelf.old }
+    ensures write_faults { S.write_faults shelf.new ≡ S.write_faults shelf.old }
+    ensures read_faults { S.read_faults shelf.old ≤ S.read_faults shelf.new }
+    ensures whole { IfOk result (λ bytes. IsWholeFile (S.files shelf.old) name.now bytes.items) }
+    ensures small { IfOk result (λ bytes. vec_len bytes ≤ 2 ^ 30) }
+    ensures read { IsErrOf result FileFault.Read → Rose (S.read_faults shelf.old) (S.read_faults shelf.new) ⊎ IsAbsent (S.files shelf.old) name.now }
+    ensures too_large { IsErrOf result FileFault.TooLarge → IsTooLarge (S.files shelf.old) name.now (2 ^ 30) }
+    ensures not_write { result ≢ Err FileFault.Write }
+{
+    Err(FileFault::Memory)
+}
+
+/// Makes the file these bytes: creates it, then appends pieces until all bytes are taken.
+///
+/// It fails with `Write` alone, and only where the count of write faults rose in this call. Then the file holds a
+/// prefix of the bytes, or all is as before where it could not be created. It takes no memory.
+pub fn write_file<S: Shelf>(shelf: &mut S, name: &str, bytes: &[u8]) -> Result<(), FileFault>
+    ensures read_faults { S.read_faults shelf.new ≡ S.read_faults shelf.old }
+    ensures write_faults { S.write_faults shelf.old ≤ S.write_faults shelf.new }
+    ensures all { OnOk result (S.files shelf.new ≡ option_map (with_file name.now bytes.now) (S.files shelf.old)) }
+    ensures prefix { OnErr result (LeavesPrefix name.now bytes.now (S.files shelf.old) (S.files shelf.new)) }
+    ensures cause { OnErr result (Rose (S.write_faults shelf.old) (S.write_faults shelf.new)) }
+    ensures only_write { IfErr result (λ fault. fault ≡ FileFault.Write) }
+{
+    Err(FileFault::Write)
+}

@@ -1,0 +1,14 @@
+//! The outside, seen from the program: a shelf of named files and a sink for printed bytes.
+//!
+//! Both are traits, so that the program is proved over every shelf and every sink, and tried over ones in
+//! memory that fail when they are told to. `DiskShelf` and `OutSink` are the trusted edge to real files and to
+//! standard output.
+#![tactic(auto)]
+
+mod files;
+mod shelf;
+mod sink;
+
+pub use files::{FileFault, read_file, write_file};
+pub use shelf::{Failed, Shelf};
+pub use sink::{Sink, say};

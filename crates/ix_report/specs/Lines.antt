@@ -1,0 +1,99 @@
+-- The line that the program prints for each answer, and its parts. A line ends with a line feed.
+use Rattle.std.specs.Prelude.{ℕ, List, [], ◌∷◌, ◌++◌, codes}
+use Rattle.std.specs.Fmt.{decimal}
+use Rattle.ix_rec.specs.declared.place.Rule.{Rule}
+use Rattle.ix_rec.specs.declared.place.Rule.TheVariants.{F1, F2, F3, F4, F5, F6, F7, F8, F9, I1, M1, M2, M3, M4, M5, M6, M7, N1, N2, N3, N4, N5, N6, N7, N8, N9, N10, P1, P2, P3, P4, P5, L1, L2, L3, L4, L5, L6, L7, L8, L9, L10, E1, E2, E3}
+use Rattle.ix_rec.specs.declared.place.File as files
+use Rattle.ix_rec.specs.declared.place.File.TheVariants as the_file
+use Rattle.ix_rec.specs.declared.place.Place as places
+use Rattle.ix_rec.specs.declared.place.Place.TheVariants as the_place
+use Rattle.ix_report.specs.declared.report.Report as reports
+use Rattle.ix_report.specs.declared.report.Report.TheVariants as the_report
+
+abbrev pub rule_name : Rule → List ℕ
+rule_name F1 = codes "F1"
+rule_name F2 = codes "F2"
+rule_name F3 = codes "F3"
+rule_name F4 = codes "F4"
+rule_name F5 = codes "F5"
+rule_name F6 = codes "F6"
+rule_name F7 = codes "F7"
+rule_name F8 = codes "F8"
+rule_name F9 = codes "F9"
+rule_name I1 = codes "I1"
+rule_name M1 = codes "M1"
+rule_name M2 = codes "M2"
+rule_name M3 = codes "M3"
+rule_name M4 = codes "M4"
+rule_name M5 = codes "M5"
+rule_name M6 = codes "M6"
+rule_name M7 = codes "M7"
+rule_name N1 = codes "N1"
+rule_name N2 = codes "N2"
+rule_name N3 = codes "N3"
+rule_name N4 = codes "N4"
+rule_name N5 = codes "N5"
+rule_name N6 = codes "N6"
+rule_name N7 = codes "N7"
+rule_name N8 = codes "N8"
+rule_name N9 = codes "N9"
+rule_name N10 = codes "N10"
+rule_name P1 = codes "P1"
+rule_name P2 = codes "P2"
+rule_name P3 = codes "P3"
+rule_name P4 = codes "P4"
+rule_name P5 = codes "P5"
+rule_name L1 = codes "L1"
+rule_name L2 = codes "L2"
+rule_name L3 = codes "L3"
+rule_name L4 = codes "L4"
+rule_name L5 = codes "L5"
+rule_name L6 = codes "L6"
+rule_name L7 = codes "L7"
+rule_name L8 = codes "L8"
+rule_name L9 = codes "L9"
+rule_name L10 = codes "L10"
+rule_name E1 = codes "E1"
+rule_name E2 = codes "E2"
+rule_name E3 = codes "E3"
+
+abbrev pub file_word : files.File → List ℕ
+file_word the_file.Device = codes "device"
+file_word the_file.Design = codes "design"
+file_word the_file.Packed = codes "packed"
+file_word the_file.Phys = codes "phys"
+
+abbrev pub place_text : places.Place → List ℕ
+place_text the_place.File = codes "file"
+place_text (the_place.At segment word) = codes "word " ++ decimal segment ++ codes ":" ++ decimal word
+place_text (the_place.Item kind field index) = kind ++ codes "." ++ field ++ codes " " ++ decimal index
+place_text (the_place.Named name) = name
+place_text (the_place.Cell name) = codes "cell " ++ name
+place_text (the_place.Pin cell pin) = codes "pin " ++ cell ++ codes "/" ++ pin
+place_text (the_place.Segment net index) = codes "net " ++ net ++ codes " #" ++ decimal index
+place_text (the_place.Element site element) = codes "element " ++ site ++ codes " " ++ decimal element
+place_text (the_place.Site name) = codes "site " ++ name
+place_text (the_place.Key key) = codes "key " ++ key
+
+-- how large the design is
+abbrev pub counts_text : (cells clusters nets pips : ℕ) → List ℕ
+counts_text cells clusters nets pips =
+    codes "done: " ++ decimal cells ++ codes " cells, " ++ decimal clusters ++ codes " clusters, " ++ decimal nets
+    ++ codes " nets, " ++ decimal pips ++ codes " pips"
+
+-- how much work it took
+abbrev pub effort_text : (trial rounds : ℕ) → List ℕ
+effort_text trial rounds = codes ", trial " ++ decimal trial ++ codes ", rounds " ++ decimal rounds
+
+-- the line of a report, without its end
+abbrev pub text_of : reports.Report → List ℕ
+text_of (the_report.Implemented cells clusters nets pips trial rounds) = counts_text cells clusters nets pips ++ effort_text trial rounds
+text_of the_report.Usage = codes "bad words"
+text_of (the_report.Bad file rule place) = file_word file ++ codes ": " ++ rule_name rule ++ codes " at " ++ place_text place
+text_of (the_report.NotBuilt file) = codes "not built yet: " ++ file_word file
+text_of (the_report.ReadFault file) = codes "read fault: " ++ file
+text_of (the_report.WriteFault file) = codes "write fault: " ++ file
+text_of the_report.OutOfMemory = codes "out of memory"
+
+abbrev pub line_of : reports.Report → List ℕ
+line_of report = text_of report ++ 10 ∷ []

@@ -1,0 +1,129 @@
+//! The line of a report.
+
+ghost use Rattle.std.specs.Prelude.{◌≡◌, ◌++◌, IfOk, OnOk, string_bytes, codes};
+ghost use Rattle.ix_report.specs.Lines.{counts_text, effort_text, file_word, rule_name, place_text, text_of, line_of};
+
+use crate::report::Report;
+use crate::words::{rule_word, word_of_file};
+use ix_num::Memory;
+use ix_rec::{File, Place, Rule};
+use std::alloc::{AllocError, Global};
+
+/// The line of `Report::OutOfMemory`, which takes no memory to make.
+pub const OUT_OF_MEMORY_LINE: &[u8] = b"out of memory\n";
+
+fn push_place(text: &mut String, place: &Place) -> Result<(), AllocError>
+    ensures { OnOk result (string_bytes text.new ≡ string_bytes text.old ++ place_text place.now) }
+{
+    match place {
+        Place::File => text.push_str("file"),
+        Place::At { segment, word } => write!(text, "word {segment}:{word}"),
+        Place::Item { kind, field, index } => {
+            text.push_str(kind.as_str())?;
+            text.push_str(".")?;
+            text.push_str(field.as_str())?;
+            write!(text, " {index}")
+        }
+        Place::Named(name) => text.push_str(name.as_str()),
+        Place::Cell(name) => {
+            text.push_str("cell ")?;
+            text.push_str(name.as_str())
+        }
+        Place::Pin(cell, pin) => {
+            text.push_str("pin ")?;
+            text.push_str(cell.as_str())?;
+            text.push_str("/")?;
+            text.push_str(pin.as_str())
+        }
+        Place::Segment { net, index } => {
+            text.push_str("net ")?;
+            text.push_str(net.as_str())?;
+            write!(text, " #{index}")
+        }
+        Place::Element(site, element) => {
+            text.push_str("element ")?;
+            text.push_str(site.as_str())?;
+            write!(text, " {element}")
+        }
+        Place::Site(name) => {
+            text.push_str("site ")?;
+            text.push_str(name.as_str())
+        }
+        Place::Key(key) => {
+            text.push_str("key ")?;
+            text.push_str(key.as_str())
+        }
+    }
+}
+
+fn push_bad(text: &mut String, file: File, rule: Rule, place: &Place) -> Result<(), AllocError>
+    ensures { OnOk result (string_bytes text.new ≡ string_bytes text.old ++ file_word file ++ codes ": " ++ rule_name rule ++ codes " at " ++ place_text place.now) }
+{
+    text.push_str(word_of_file(file))?;
+    text.push_str(": ")?;
+    text.push_str(rule_word(rule))?;
+    text.push_str(" at ")?;
+    push_place(text, place)
+}
+
+fn push_two(text: &mut String, first: &str, second: &str) -> Result<(), AllocError>
+    ensures { OnOk result (string_bytes text.new ≡ string_bytes text.old ++ (first.now ++ second.now)) }
+{
+    text.push_str(first)?;
+    text.push_str(second)
+}
+
+fn push_counts(
+    text: &mut String,
+    cells: u32,
+    clusters: u32,
+    nets: u32,
+    pips: u64,
+) -> Result<(), AllocError>
+    ensures { OnOk result (string_bytes text.new ≡ string_bytes text.old ++ counts_text cells clusters nets pips) }
+{
+    write!(
+        text,
+        "done: {cells} cells, {clusters} clusters, {nets} nets, {pips} pips"
+    )
+}
+
+fn push_effort(text: &mut String, trial: u32, rounds: u32) -> Result<(), AllocError>
+    ensures { OnOk result (string_bytes text.new ≡ string_bytes text.old ++ effort_text trial rounds) }
+{
+    write!(text, ", trial {trial}, rounds {rounds}")
+}
+
+fn push_report(text: &mut String, report: &Report) -> Result<(), AllocError>
+    ensures { OnOk result (string_bytes text.new ≡ string_bytes text.old ++ text_of report.now) }
+{
+    match report {
+        Report::Implemented {
+            cells,
+            clusters,
+            nets,
+            pips,
+            trial,
+            rounds,
+        } => {
+            push_counts(text, *cells, *clusters, *nets, *pips)?;
+            push_effort(text, *trial, *rounds)
+        }
+        Report::Usage => text.push_str("bad words"),
+        Report::Bad { file, rule, place } => push_bad(text, *file, *rule, place),
+        Report::NotBuilt(file) => push_two(text, "not built yet: ", word_of_file(*file)),
+        Report::ReadFault { file } => push_two(text, "read fault: ", file.as_str()),
+        Report::WriteFault { file } => push_two(text, "write fault: ", file.as_str()),
+        Report::OutOfMemory => text.push_str("out of memory"),
+    }
+}
+
+/// The line of a report, with the line feed that ends it. `Memory` is its only error.
+pub fn line(alloc: Global, report: &Report) -> Result<Vec<u8>, Memory>
+    ensures { IfOk result (λ bytes. bytes.items ≡ line_of report.now) }
+{
+    let mut text = String::new(alloc);
+    push_report(&mut text, report)?;
+    text.push_str("\n")?;
+    Ok(text.into_bytes())
+}

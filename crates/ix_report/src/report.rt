@@ -1,0 +1,48 @@
+//! What the program has to tell.
+
+use ix_rec::{File, Place, Rule, Word};
+
+/// An answer of the program, with the values that its line shows.
+#[derive(Debug, Drop)]
+pub enum Report {
+    /// `flow` has written its netlist.
+    Implemented {
+        /// Cells of the flat design.
+        cells: u32,
+        /// Clusters, as many as sites in use.
+        clusters: u32,
+        /// Signal nets of the flat design.
+        nets: u32,
+        /// PIP segments of all nets.
+        pips: u64,
+        /// The trial that routed, from 1.
+        trial: u32,
+        /// The rounds that it took.
+        rounds: u32,
+    },
+    /// The words of the command line are refused.
+    Usage,
+    /// A file breaks a rule.
+    Bad {
+        /// The file.
+        file: File,
+        /// The first rule that it breaks.
+        rule: Rule,
+        /// The first place at which it breaks it.
+        place: Place,
+    },
+    /// A file that is valid so far has parts that the program can't handle yet.
+    NotBuilt(File),
+    /// A file can't be read.
+    ReadFault {
+        /// The file's name.
+        file: Word,
+    },
+    /// A file can't be written.
+    WriteFault {
+        /// The file's name.
+        file: Word,
+    },
+    /// Out of memory.
+    OutOfMemory,
+}

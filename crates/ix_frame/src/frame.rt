@@ -1,0 +1,64 @@
+//! Frames, and what reading them may cost.
+
+ghost use Rattle.std.specs.Prelude.{◌≡◌, ◌≤◌, ◌^◌, length, IfOk, IfErr};
+ghost use Rattle.ix_frame.specs.Segments.{IsFrame, segments};
+
+use byteorder::{ByteOrder, LittleEndian};
+use ix_num::{FrameFault, FrameRule};
+use std::marker::Model;
+
+use crate::table::sum_of_table;
+
+/// A file that holds a Cap'n Proto message, opened: its table of segments was read, and the segments fill the
+/// rest of the file. A `Copy` value over the file's bytes.
+#[derive(Clone, Copy)]
+pub struct Frame<'a> {
+    bytes: &'a [u8],
+    ghost whole: { IsFrame bytes.now },
+}
+
+fn in_file(rule: FrameRule) -> FrameFault
+    ensures rule { result.rule ≡ rule }
+    ensures segment { result.segment ≡ 0 }
+    ensures word { result.word ≡ 0 }
+{
+    FrameFault {
+        rule,
+        segment: 0,
+        word: 0,
+    }
+}
+
+impl<'a> Frame<'a> {
+    ghost use Rattle.std.specs.Prelude.{Ok, Err};
+    ghost use Rattle.ix_frame.specs.Objects.{blamed, whole_budget};
+    ghost use Rattle.ix_frame.specs.Views.{segments_of};
+
+    /// Opens a file's bytes, of which there are at most 2^30. Refused are, in this order: F1 for fewer than 4
+    /// bytes, F2 for more than 512 segments, F1 for a table that the end cuts, and F1 for segments that end
+    /// before the file's end or after it. The fault stands at word 0 of segment 0.
+    #[tactic(auto, unfolding(crate::specs::Segments::segments))]
+    pub fn open(bytes: &'a [u8]) -> Result<Frame<'a>, FrameFault>
+        requires { length bytes.now ≤ 2 ^ 30 }
+        ensures opened { IfOk result (λ frame. segments bytes.now ≡ Ok (segments_of frame)) }
+        ensures refused { IfErr result (λ fault. blamed 0 0 (segments bytes.now) ≡ Err fault) }
+    {
+        if bytes.len() < 4 {
+            return Err(in_file(FrameRule::F1));
+        }
+        let count = LittleEndian::read_u32(bytes) as usize + 1;
+        if 512 < count {
+            return Err(in_file(FrameRule::F2));
+        }
+        let table = 8 * (count / 2 + 1);
+        if bytes.len() < table {
+            return Err(in_file(FrameRule::F1));
+        }
+        let words = sum_of_table(&bytes[4..], count);
+        if bytes.len() as u64 == table as u64 + 8 * words {
+            Ok(Frame { bytes })
+        } else {
+            Err(in_file(FrameRule::F1))
+        }
+    }
+}

@@ -1,9 +1,10 @@
 -- Walking the table of a file's segments.
-use Rattle.std.proofs.Common.{◌≡◌, ℕ, suc, ◌+◌, ◌-◌, ◌*◌, ◌^◌, ◌<◌, ◌≤◌, List, [], ◌∷◌, length, sum, take, drop, get_or, refl, sym, ap, ◌∙◌, arith}
+use Rattle.std.proofs.Common.{◌≡◌, ℕ, zero, suc, ◌/◌, map, ◌+◌, ◌-◌, ◌*◌, ◌^◌, ◌<◌, ◌≤◌, List, [], ◌∷◌, length, sum, take, drop, get_or, refl, sym, ap, ◌∙◌, arith}
 use Rattle.std.proofs.lemmas.List.Sums.{sum_by-cons}
-use Rattle.std.proofs.lemmas.List.{length-drop}
+use Rattle.std.proofs.lemmas.List.{length-drop, length-take}
 use Rattle.byteorder.specs.Endian.{little_number}
-use Rattle.ix_frame.specs.Segments.{numbers_of_four, cut}
+use Rattle.ix_frame.specs.Segments.{numbers_of_four, cut, cut_out, segment_count, segment_words, table_length, IsFrame, IsSegment}
+use Rattle.ix_frame.specs.Objects.{whole_budget}
 
 -- the numbers that are left at place i
 pub numbers_from : (count i : ℕ) (rest : List ℕ) → i < count → numbers_of_four (count - i) rest ≡ little_number 4 rest ∷ numbers_of_four (count - (i + 1)) (drop 4 rest)
@@ -84,3 +85,54 @@ summed_next table count i words rest n rest' lt fits e r h = rw r (record {
 
 pub summed_last : (table : List ℕ) (count i words : ℕ) (rest : List ℕ) → count ≤ i → IsSummed table count i words rest → words ≡ sum (numbers_of_four count table)
 summed_last table count i words rest le h = omega (arith, h.so_far, sum_none count i rest le)
+
+-- ---- the parts of a file
+
+length-numbers_of_four : (n : ℕ) (bytes : List ℕ) → length (numbers_of_four n bytes) ≡ n
+unfolding numbers_of_four
+length-numbers_of_four zero bytes = refl
+length-numbers_of_four (suc n) bytes = ap suc (length-numbers_of_four n (drop 4 bytes))
+
+length-cut : (ns bytes : List ℕ) → length (cut ns bytes) ≡ length ns
+unfolding cut
+length-cut [] bytes = refl
+length-cut (n ∷ ns) bytes = ap suc (length-cut ns (drop (8 * n) bytes))
+
+pub length-cut_out : (bytes : List ℕ) → length (cut_out bytes) ≡ segment_count bytes
+unfolding cut_out
+length-cut_out bytes = length-cut (segment_words bytes) (drop (table_length (segment_count bytes)) bytes) ∙ length-numbers_of_four (segment_count bytes) (drop 4 bytes)
+
+words-cut : (ns bytes : List ℕ) → 8 * sum ns ≤ length bytes → sum (map length (cut ns bytes)) ≡ 8 * sum ns
+unfolding cut
+words-cut [] bytes h = refl
+words-cut (n ∷ ns) bytes h =
+    let all = sum_by-cons (λ x. x) n ns in
+    let rest = words-cut ns (drop (8 * n) bytes) (omega (arith, all, h, length-drop (8 * n) bytes)) in
+    sum_by-cons (λ x. x) (length (take (8 * n) bytes)) (map length (cut ns (drop (8 * n) bytes)))
+    ∙ omega (arith, all, rest, h, length-take (8 * n) bytes)
+
+pub words-cut_out : (bytes : List ℕ) → IsFrame bytes → sum (map length (cut_out bytes)) ≡ length bytes - table_length (segment_count bytes)
+unfolding cut_out
+words-cut_out bytes h =
+    let table = table_length (segment_count bytes) in
+    let room : 8 * sum (segment_words bytes) ≤ length (drop table bytes) = omega (arith, h.whole, length-drop table bytes) in
+    words-cut (segment_words bytes) (drop table bytes) room ∙ omega (arith, h.whole)
+
+pub budget_of : (bytes : List ℕ) (n : ℕ) → IsFrame bytes → n ≡ little_number 4 bytes → 2 * ((length bytes - 8 * ((n + 1) / 2 + 1)) / 8) + 64 ≡ whole_budget (cut_out bytes)
+budget_of bytes n h e = rw (e, words-cut_out bytes h) refl
+
+pub past_all : (bytes : List ℕ) (last number : ℕ) → last ≡ little_number 4 bytes → last < number → length (cut_out bytes) ≤ number
+past_all bytes last number e lt = rw (length-cut_out bytes, ← e) (omega arith)
+
+pub is_segment : (bytes : List ℕ) (last number : ℕ) (table rest found : List ℕ) → IsFrame bytes → last ≡ little_number 4 bytes → number ≤ last → table ≡ drop 4 bytes → rest ≡ drop (8 * ((last + 1) / 2 + 1)) bytes
+    → found ≡ get_or (cut (numbers_of_four (last + 1) table) rest) number [] → length found ≤ length rest → IsSegment bytes number found
+unfolding cut_out
+is_segment bytes last number table rest found h e le t r f short =
+    let behind : rest ≡ drop (table_length (segment_count bytes)) bytes = r ∙ ap (λ (n : ℕ). drop (table_length (n + 1)) bytes) e in
+    record {
+      there = omega (arith, length-cut_out bytes);
+      is = f ∙ ap (λ (n : ℕ). get_or (cut (numbers_of_four (n + 1) table) rest) number []) e
+          ∙ ap (λ (xs : List ℕ). get_or (cut (numbers_of_four (segment_count bytes) xs) rest) number []) t
+          ∙ ap (λ (xs : List ℕ). get_or (cut (segment_words bytes) xs) number []) behind;
+      short = omega (arith, h.short, ap (λ (xs : List ℕ). length xs) r, length-drop (8 * ((last + 1) / 2 + 1)) bytes);
+    }

@@ -9,11 +9,55 @@ use std::marker::Model;
 
 use crate::table::sum_of_table;
 
+/// What reading a message may still cost, in words. Each pointer that is followed is charged for the
+/// object behind it, so that no message, however its pointers share objects or lead back, is read for
+/// longer than its size allows.
+#[derive(Drop)]
+pub struct Budget(u64);
+
+impl Model for Budget {
+    ghost use Rattle.std.specs.Prelude.{ℕ};
+
+    ghost Value = { ℕ };
+
+    ghost view = { λ budget. budget.0 };
+
+    ghost inverse = { λ n. record { 0 = n } };
+}
+
+impl Budget {
+    ghost use Rattle.ix_frame.specs.Objects.{whole_budget};
+    ghost use Rattle.ix_frame.specs.Views.{segments_of};
+
+    /// What one reading of a frame may cost: twice the words of its segments, plus 64.
+    pub fn new(frame: &Frame<'_>) -> Budget
+        ensures { result ≡ whole_budget (segments_of frame.now) }
+    {
+        let count = LittleEndian::read_u32(frame.bytes) as u64 + 1;
+        let table = 8 * (count / 2 + 1);
+        Budget(2 * ((frame.bytes.len() as u64 - table) / 8) + 64)
+    }
+
+    /// What is left.
+    pub fn left(&self) -> u64
+        ensures { result ≡ self.now }
+    {
+        self.0
+    }
+
+    /// Sets what is left.
+    pub(crate) fn set(&mut self, left: u64)
+        ensures { self.new ≡ left }
+    {
+        self.0 = left;
+    }
+}
+
 /// A file that holds a Cap'n Proto message, opened: its table of segments was read, and the segments fill the
 /// rest of the file. A `Copy` value over the file's bytes.
 #[derive(Clone, Copy)]
 pub struct Frame<'a> {
-    bytes: &'a [u8],
+    pub(crate) bytes: &'a [u8],
     ghost whole: { IsFrame bytes.now },
 }
 

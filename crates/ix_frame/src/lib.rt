@@ -8,6 +8,7 @@
 
 
 mod frame;
+mod segment;
 
 
 
@@ -15,6 +16,6 @@ mod frame;
 mod table;
 
 
-pub use frame::Frame;
+pub use frame::{Budget, Frame};
 
 

@@ -2,7 +2,10 @@
 use Rattle.std.specs.Prelude.{◌≡◌, ℕ, ◌+◌, ◌*◌, ◌≤◌, true, length}
 use Rattle.ix_frame.specs.declared.frame.Frame.{Frame}
 use Rattle.ix_frame.specs.declared.segment.Segment.{Segment}
+use Rattle.ix_frame.specs.declared.target.Aim.{Aim}
+use Rattle.ix_frame.specs.declared.target.Place.{Place}
 use Rattle.ix_frame.specs.Segments.{Segments, cut_out, has_words}
+use Rattle.ix_frame.specs.Target.{Pointed}
 
 -- the segments of an opened file
 abbrev pub segments_of : Frame → Segments
@@ -23,3 +26,10 @@ pub record Holds (segments : Segments) (n start words : ℕ) (s : Segment) : Typ
   pub number : s.number ≡ n
   pub has : has_words segments n start words ≡ true
   pub room : 8 * (start + words) ≤ length s.bytes.now
+
+abbrev pub aim_of : Aim → Pointed
+aim_of a = record { described = a.described; segment = a.segment; start = a.start }
+
+-- these words from the place on lie in the segment with this number
+abbrev pub IsPlace : Segments → ℕ → ℕ → Place → Type 0
+IsPlace segments n words p = Holds segments n p.start words p.segment

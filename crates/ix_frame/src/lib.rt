@@ -14,6 +14,7 @@ mod segment;
 
 
 mod table;
+mod target;
 
 
 pub use frame::{Budget, Frame};

@@ -4,8 +4,10 @@ use Rattle.ix_frame.specs.declared.frame.Frame.{Frame}
 use Rattle.ix_frame.specs.declared.segment.Segment.{Segment}
 use Rattle.ix_frame.specs.declared.target.Aim.{Aim}
 use Rattle.ix_frame.specs.declared.target.Place.{Place}
+use Rattle.ix_frame.specs.declared.object.Obj.{Obj}
+use Rattle.ix_frame.specs.declared.list.List.{List}
 use Rattle.ix_frame.specs.Segments.{Segments, cut_out, has_words}
-use Rattle.ix_frame.specs.Target.{Pointed}
+use Rattle.ix_frame.specs.Target.{Pointed, Object, Elements}
 
 -- the segments of an opened file
 abbrev pub segments_of : Frame → Segments
@@ -33,3 +35,9 @@ aim_of a = record { described = a.described; segment = a.segment; start = a.star
 -- these words from the place on lie in the segment with this number
 abbrev pub IsPlace : Segments → ℕ → ℕ → Place → Type 0
 IsPlace segments n words p = Holds segments n p.start words p.segment
+
+abbrev pub object_of : Obj → Object
+object_of o = record { segments = all_of o.segment; segment = o.segment.number; start = o.start; data_words = o.data_words; pointer_words = o.pointer_words }
+
+abbrev pub elements_of : List → Elements
+elements_of l = record { count = l.count; first = record { segments = all_of l.segment; segment = l.segment.number; start = l.start; data_words = l.data_words; pointer_words = l.pointer_words } }

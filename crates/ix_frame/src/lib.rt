@@ -6,17 +6,16 @@
 //! "Structs", "Lists", "Inter-Segment Pointers"), with the limits that `FrameRule` names.
 #![tactic(auto)]
 
-
+mod follow;
 mod frame;
+mod list;
+mod object;
 mod segment;
-
-
-
 
 mod table;
 mod target;
 
-
 pub use frame::{Budget, Frame};
-
+pub use list::List;
+pub use object::Obj;
 

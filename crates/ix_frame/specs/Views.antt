@@ -1,13 +1,17 @@
 -- What the values of this crate are.
-use Rattle.std.specs.Prelude.{◌≡◌, ℕ, ◌+◌, ◌*◌, ◌≤◌, true, length}
+use Rattle.std.specs.Prelude.{◌≡◌, List as Items, ℕ, ◌+◌, ◌*◌, ◌≤◌, true, length}
 use Rattle.ix_frame.specs.declared.frame.Frame.{Frame}
 use Rattle.ix_frame.specs.declared.segment.Segment.{Segment}
 use Rattle.ix_frame.specs.declared.target.Aim.{Aim}
 use Rattle.ix_frame.specs.declared.target.Place.{Place}
 use Rattle.ix_frame.specs.declared.object.Obj.{Obj}
 use Rattle.ix_frame.specs.declared.list.List.{List}
+use Rattle.ix_frame.specs.declared.follow.Run.{Run}
+use Rattle.ix_frame.specs.declared.list.Numbers.{Numbers}
+use Rattle.ix_frame.specs.declared.list.Texts.{Texts}
 use Rattle.ix_frame.specs.Segments.{Segments, cut_out, has_words}
-use Rattle.ix_frame.specs.Target.{Pointed, Object, Elements}
+use Rattle.ix_frame.specs.Target.{Pointed, Object, Elements, list_words}
+use Rattle.ix_frame.specs.Objects.{numbers_in}
 
 -- the segments of an opened file
 abbrev pub segments_of : Frame → Segments
@@ -41,3 +45,20 @@ object_of o = record { segments = all_of o.segment; segment = o.segment.number; 
 
 abbrev pub elements_of : List → Elements
 elements_of l = record { count = l.count; first = record { segments = all_of l.segment; segment = l.segment.number; start = l.start; data_words = l.data_words; pointer_words = l.pointer_words } }
+
+abbrev pub run_of : Run → Elements
+run_of l = record { count = l.count; first = record { segments = all_of l.segment; segment = l.segment.number; start = l.start; data_words = 0; pointer_words = 0 } }
+
+-- the words of a list of this element size lie in its segment
+pub record IsRun (size : ℕ) (l : Run) : Type 0 where
+  pub room : 8 * (l.start + list_words size l.count) ≤ length l.segment.bytes.now
+
+-- a list of numbers, and the numbers themselves
+abbrev pub number_elements : Numbers → Elements
+number_elements l = record { count = l.count; first = record { segments = all_of l.segment; segment = l.segment.number; start = l.start; data_words = 0; pointer_words = 0 } }
+
+abbrev pub numbers_of : Numbers → Items ℕ
+numbers_of l = numbers_in (number_elements l)
+
+abbrev pub text_elements : Texts → Elements
+text_elements l = record { count = l.count; first = record { segments = all_of l.segment; segment = l.segment.number; start = l.start; data_words = 0; pointer_words = 0 } }

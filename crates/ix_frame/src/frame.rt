@@ -7,6 +7,9 @@ use byteorder::{ByteOrder, LittleEndian};
 use ix_num::{FrameFault, FrameRule};
 use std::marker::Model;
 
+use crate::follow::struct_behind;
+use crate::object::Obj;
+use crate::segment::Segment;
 use crate::table::sum_of_table;
 
 /// What reading a message may still cost, in words. Each pointer that is followed is charged for the
@@ -75,8 +78,9 @@ fn in_file(rule: FrameRule) -> FrameFault
 
 impl<'a> Frame<'a> {
     ghost use Rattle.std.specs.Prelude.{Ok, Err};
-    ghost use Rattle.ix_frame.specs.Objects.{blamed, whole_budget};
-    ghost use Rattle.ix_frame.specs.Views.{segments_of};
+    ghost use Rattle.ix_frame.specs.Objects.{blamed, root_of};
+    ghost use Rattle.ix_frame.specs.Result.{Gives};
+    ghost use Rattle.ix_frame.specs.Views.{segments_of, object_of};
 
     /// Opens a file's bytes, of which there are at most 2^30. Refused are, in this order: F1 for fewer than 4
     /// bytes, F2 for more than 512 segments, F1 for a table that the end cuts, and F1 for segments that end
@@ -103,6 +107,21 @@ impl<'a> Frame<'a> {
             Ok(Frame { bytes })
         } else {
             Err(in_file(FrameRule::F1))
+        }
+    }
+    /// The struct that the root pointer leads to, which is word 0 of segment 0; a struct without words where it is zero.
+    /// F5, F4, F3 (also where segment 0 has no word) or F7, at word 0 of segment 0, after which the budget is as before.
+    #[tactic(auto, unfolding(crate::specs::Objects::root_of))]
+    pub fn root(&self, budget: &mut Budget) -> Result<Obj<'a>, FrameFault>
+        ensures { Gives object_of result budget.old budget.new (root_of (segments_of self.now) budget.old) }
+    {
+        let Some(segment) = Segment::of(self, 0) else {
+            return Err(in_file(FrameRule::F3));
+        };
+        if segment.has(0, 1) {
+            struct_behind(&segment, 0, budget)
+        } else {
+            Err(in_file(FrameRule::F3))
         }
     }
 }

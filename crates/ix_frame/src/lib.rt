@@ -16,6 +16,6 @@ mod table;
 mod target;
 
 pub use frame::{Budget, Frame};
-pub use list::List;
+pub use list::{List, Numbers, Texts};
 pub use object::Obj;
 

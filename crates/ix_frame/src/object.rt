@@ -5,8 +5,9 @@ ghost use Rattle.std.specs.Prelude.{◌+◌, ◌*◌, ◌≤◌, length};
 use byteorder::{ByteOrder, LittleEndian};
 use ix_num::FrameFault;
 
-use crate::follow::{no_struct, struct_behind};
+use crate::follow::{Run, elements_behind, no_elements, no_run, no_struct, run_behind, struct_behind, text_behind};
 use crate::frame::Budget;
+use crate::list::{List, Numbers, Texts};
 use crate::segment::Segment;
 use crate::table::behind;
 
@@ -26,10 +27,10 @@ pub struct Obj<'a> {
 }
 
 impl<'a> Obj<'a> {
-    ghost use Rattle.std.specs.Prelude.{◌≡◌};
+    ghost use Rattle.std.specs.Prelude.{◌≡◌, IfOk};
     ghost use Rattle.ix_frame.specs.Result.{Gives};
     ghost use Rattle.ix_frame.specs.Objects.{u32_in, bool_in, tag_in, has_pointer, struct_at, elements_at, list_at, text_at};
-    ghost use Rattle.ix_frame.specs.Views.{object_of};
+    ghost use Rattle.ix_frame.specs.Views.{object_of, elements_of, run_of, IsRun, number_elements, text_elements};
 
     /// The number in this data slot, 0 past the data section.
     #[tactic(auto, unfolding(crate::specs::Objects::u32_in))]
@@ -76,5 +77,69 @@ impl<'a> Obj<'a> {
         } else {
             Ok(no_struct(&self.segment))
         }
+    }
+    /// The text behind this pointer, which is a slice of the file; empty where the pointer is zero or past the
+    /// pointer section. F5, F4, F3, F7 or F6, at the pointer's own word, after which the budget is as before.
+    #[tactic(auto, unfolding(crate::specs::Objects::text_at))]
+    pub fn text(&self, slot: u32, budget: &mut Budget) -> Result<&'a str, FrameFault>
+        ensures { Gives (λ text. text.now) result budget.old budget.new (text_at (object_of self.now) slot budget.old) }
+    {
+        if slot < self.pointer_words as u32 {
+            text_behind(&self.segment, self.start + self.data_words as u32 + slot, budget)
+        } else {
+            Ok("")
+        }
+    }
+
+    /// The list of structs behind this pointer; empty where the pointer is zero or past the pointer section.
+    /// F5, F4, F3, F8 or F7, at the pointer's own word, after which the budget is as before.
+    #[tactic(auto, unfolding(crate::specs::Objects::elements_at))]
+    pub fn list(&self, slot: u32, budget: &mut Budget) -> Result<List<'a>, FrameFault>
+        ensures { Gives elements_of result budget.old budget.new (elements_at (object_of self.now) slot budget.old) }
+    {
+        if slot < self.pointer_words as u32 {
+            elements_behind(&self.segment, self.start + self.data_words as u32 + slot, budget)
+        } else {
+            Ok(no_elements(&self.segment))
+        }
+    }
+
+    /// The list of this element size behind a pointer.
+    #[tactic(auto, unfolding(crate::specs::Objects::list_at))]
+    fn run(&self, size: u32, slot: u32, budget: &mut Budget) -> Result<Run<'a>, FrameFault>
+        ensures exact { Gives run_of result budget.old budget.new (list_at size (object_of self.now) slot budget.old) }
+        ensures inside { IfOk result (IsRun size) }
+    {
+        if slot < self.pointer_words as u32 {
+            run_behind(size, &self.segment, self.start + self.data_words as u32 + slot, budget)
+        } else {
+            Ok(no_run(&self.segment))
+        }
+    }
+
+    /// The list of numbers of 32 bits behind this pointer; empty where the pointer is zero or past the pointer section.
+    /// F5, F4, F3 or F7, at the pointer's own word, after which the budget is as before.
+    pub fn numbers(&self, slot: u32, budget: &mut Budget) -> Result<Numbers<'a>, FrameFault>
+        ensures { Gives number_elements result budget.old budget.new (list_at 4 (object_of self.now) slot budget.old) }
+    {
+        let run = self.run(4, slot, budget)?;
+        Ok(Numbers {
+            segment: run.segment,
+            start: run.start,
+            count: run.count,
+        })
+    }
+
+    /// The list of texts behind this pointer; empty where the pointer is zero or past the pointer section.
+    /// F5, F4, F3 or F7, at the pointer's own word, after which the budget is as before.
+    pub fn texts(&self, slot: u32, budget: &mut Budget) -> Result<Texts<'a>, FrameFault>
+        ensures { Gives text_elements result budget.old budget.new (list_at 6 (object_of self.now) slot budget.old) }
+    {
+        let run = self.run(6, slot, budget)?;
+        Ok(Texts {
+            segment: run.segment,
+            start: run.start,
+            count: run.count,
+        })
     }
 }

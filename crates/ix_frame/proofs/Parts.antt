@@ -1,7 +1,7 @@
 -- Walking the table of a file's segments.
 use Rattle.std.proofs.Common.{◌≡◌, ℕ, zero, suc, ◌/◌, map, ◌+◌, ◌-◌, ◌*◌, ◌^◌, ◌<◌, ◌≤◌, List, [], ◌∷◌, length, sum, take, drop, get_or, refl, sym, ap, ◌∙◌, arith}
 use Rattle.std.proofs.lemmas.List.Sums.{sum_by-cons}
-use Rattle.std.proofs.lemmas.List.{length-drop, length-take}
+use Rattle.std.proofs.lemmas.List.{length-drop, length-take, drop-drop}
 use Rattle.byteorder.specs.Endian.{little_number}
 use Rattle.ix_frame.specs.Segments.{numbers_of_four, cut, cut_out, segment_count, segment_words, table_length, IsFrame, IsSegment}
 use Rattle.ix_frame.specs.Objects.{whole_budget}
@@ -88,7 +88,7 @@ summed_last table count i words rest le h = omega (arith, h.so_far, sum_none cou
 
 -- ---- the parts of a file
 
-length-numbers_of_four : (n : ℕ) (bytes : List ℕ) → length (numbers_of_four n bytes) ≡ n
+pub length-numbers_of_four : (n : ℕ) (bytes : List ℕ) → length (numbers_of_four n bytes) ≡ n
 unfolding numbers_of_four
 length-numbers_of_four zero bytes = refl
 length-numbers_of_four (suc n) bytes = ap suc (length-numbers_of_four n (drop 4 bytes))
@@ -136,3 +136,23 @@ is_segment bytes last number table rest found h e le t r f short =
           ∙ ap (λ (xs : List ℕ). get_or (cut (segment_words bytes) xs) number []) behind;
       short = omega (arith, h.short, ap (λ (xs : List ℕ). length xs) r, length-drop (8 * ((last + 1) / 2 + 1)) bytes);
     }
+
+-- ---- a list of numbers
+
+pub below_count : (n i : ℕ) (bytes : List ℕ) → i < length (numbers_of_four n bytes) → i < n
+below_count n i bytes h = rw length-numbers_of_four at h
+
+get_or-numbers_of_four : (n i : ℕ) (bytes : List ℕ) → i < n → get_or (numbers_of_four n bytes) i 0 ≡ little_number 4 (drop (4 * i) bytes)
+unfolding numbers_of_four
+get_or-numbers_of_four zero i bytes lt = absurd (omega arith)
+get_or-numbers_of_four (suc n) zero bytes lt = refl
+get_or-numbers_of_four (suc n) (suc i) bytes lt =
+    let k : 4 + 4 * i ≡ 4 * suc i = omega arith in
+    get_or-numbers_of_four n i (drop 4 bytes) (omega arith)
+    ∙ ap (λ (xs : List ℕ). little_number 4 xs) (drop-drop (4 * i) 4 bytes ∙ ap (λ (m : ℕ). drop m bytes) k)
+
+pub number_is : (segment bytes rest : List ℕ) (start count i n : ℕ) → bytes ≡ segment → rest ≡ drop (8 * start + 4 * i) bytes → n ≡ little_number 4 rest → i < length (numbers_of_four count (drop (8 * start) segment))
+    → n ≡ get_or (numbers_of_four count (drop (8 * start) segment)) i 0
+number_is segment bytes rest start count i n b r e lt =
+    e ∙ ap (λ (xs : List ℕ). little_number 4 xs) (r ∙ ap (λ (xs : List ℕ). drop (8 * start + 4 * i) xs) b ∙ sym (drop-drop (4 * i) (8 * start) segment))
+    ∙ sym (get_or-numbers_of_four count i (drop (8 * start) segment) (below_count count i (drop (8 * start) segment) lt))

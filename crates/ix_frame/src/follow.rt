@@ -7,14 +7,13 @@ ghost use Rattle.ix_frame.specs.Target.{struct_target, list_target, composite_ta
 ghost use Rattle.ix_frame.specs.Objects.{charged, composite_cost, no_struct, no_elements, bytes_of, text_of, struct_from, struct_behind, elements_from, elements_behind, list_from, list_behind, list_found, text_from, text_behind};
 ghost use Rattle.ix_frame.specs.Views.{all_of, aim_of, object_of, elements_of, run_of, IsRun};
 
-use ix_num::{FrameFault, FrameRule};
-
 use crate::frame::Budget;
 use crate::list::List;
 use crate::object::Obj;
 use crate::segment::Segment;
 use crate::table::{behind, front};
 use crate::target::{Aim, aim_at, place_at};
+use ix_num::{FrameFault, FrameRule};
 
 /// A list of bytes, of numbers or of pointers, which stand one after another.
 #[derive(Clone, Copy)]
@@ -88,7 +87,11 @@ fn struct_from<'a>(from: &Segment<'a>, word: u32, budget: u64) -> Result<(Obj<'a
 
 /// The struct behind a pointer. Its cost is taken from the budget, unless there is a fault.
 #[tactic(auto, unfolding(crate::specs::Objects::struct_behind))]
-pub fn struct_behind<'a>(from: &Segment<'a>, word: u32, budget: &mut Budget) -> Result<Obj<'a>, FrameFault>
+pub fn struct_behind<'a>(
+    from: &Segment<'a>,
+    word: u32,
+    budget: &mut Budget,
+) -> Result<Obj<'a>, FrameFault>
     requires { 8 * (word + 1) ≤ length from.now.bytes.now }
     ensures { Gives object_of result budget.old budget.new (struct_behind (all_of from.now) from.now.number word budget.old) }
 {
@@ -170,7 +173,11 @@ fn elements_cost(list: &List<'_>, words: u32) -> u64
 
 /// The list of structs behind a pointer, and what is left of the budget.
 #[tactic(auto, unfolding(crate::specs::Objects::elements_found))]
-fn elements_from<'a>(from: &Segment<'a>, word: u32, budget: u64) -> Result<(List<'a>, u64), FrameRule>
+fn elements_from<'a>(
+    from: &Segment<'a>,
+    word: u32,
+    budget: u64,
+) -> Result<(List<'a>, u64), FrameRule>
     requires { 8 * (word + 1) ≤ length from.now.bytes.now }
     ensures { Finds (λ x. (elements_of x.0, x.1)) result (elements_from (all_of from.now) from.now.number word budget) }
 {
@@ -184,7 +191,11 @@ fn elements_from<'a>(from: &Segment<'a>, word: u32, budget: u64) -> Result<(List
 
 /// The list of structs behind a pointer. Its cost is taken from the budget, unless there is a fault.
 #[tactic(auto, unfolding(crate::specs::Objects::elements_behind))]
-pub fn elements_behind<'a>(from: &Segment<'a>, word: u32, budget: &mut Budget) -> Result<List<'a>, FrameFault>
+pub fn elements_behind<'a>(
+    from: &Segment<'a>,
+    word: u32,
+    budget: &mut Budget,
+) -> Result<List<'a>, FrameFault>
     requires { 8 * (word + 1) ≤ length from.now.bytes.now }
     ensures { Gives elements_of result budget.old budget.new (elements_behind (all_of from.now) from.now.number word budget.old) }
 {
@@ -258,7 +269,12 @@ fn run_at<'a>(size: u32, from: &Segment<'a>, aim: &Aim) -> Result<(Run<'a>, u32)
 
 /// The list of this element size that is meant, and what is left of the budget.
 #[tactic(auto, unfolding(crate::specs::Objects::list_found))]
-fn run_found<'a>(size: u32, from: &Segment<'a>, aim: &Aim, budget: u64) -> Result<(Run<'a>, u64), FrameRule>
+fn run_found<'a>(
+    size: u32,
+    from: &Segment<'a>,
+    aim: &Aim,
+    budget: u64,
+) -> Result<(Run<'a>, u64), FrameRule>
     ensures exact { Finds (λ x. (run_of x.0, x.1)) result (list_found size (all_of from.now) budget (Some (aim_of aim.now))) }
     ensures inside { IfOk result (λ x. IsRun size x.0) }
 {
@@ -269,7 +285,12 @@ fn run_found<'a>(size: u32, from: &Segment<'a>, aim: &Aim, budget: u64) -> Resul
 
 /// The list of this element size behind a pointer, and what is left of the budget.
 #[tactic(auto, unfolding(crate::specs::Objects::list_found))]
-fn run_from<'a>(size: u32, from: &Segment<'a>, word: u32, budget: u64) -> Result<(Run<'a>, u64), FrameRule>
+fn run_from<'a>(
+    size: u32,
+    from: &Segment<'a>,
+    word: u32,
+    budget: u64,
+) -> Result<(Run<'a>, u64), FrameRule>
     requires { 8 * (word + 1) ≤ length from.now.bytes.now }
     ensures exact { Finds (λ x. (run_of x.0, x.1)) result (list_from size (all_of from.now) from.now.number word budget) }
     ensures inside { IfOk result (λ x. IsRun size x.0) }
@@ -282,7 +303,12 @@ fn run_from<'a>(size: u32, from: &Segment<'a>, word: u32, budget: u64) -> Result
 
 /// The list of this element size behind a pointer. Its cost is taken from the budget, unless there is a fault.
 #[tactic(auto, unfolding(crate::specs::Objects::list_behind))]
-pub fn run_behind<'a>(size: u32, from: &Segment<'a>, word: u32, budget: &mut Budget) -> Result<Run<'a>, FrameFault>
+pub fn run_behind<'a>(
+    size: u32,
+    from: &Segment<'a>,
+    word: u32,
+    budget: &mut Budget,
+) -> Result<Run<'a>, FrameFault>
     requires { 8 * (word + 1) ≤ length from.now.bytes.now }
     ensures exact { Gives run_of result budget.old budget.new (list_behind size (all_of from.now) from.now.number word budget.old) }
     ensures inside { IfOk result (IsRun size) }
@@ -305,7 +331,10 @@ fn run_bytes<'a>(run: &Run<'a>) -> &'a [u8]
     requires { IsRun 2 run.now }
     ensures { result.now ≡ bytes_of (run_of run.now) }
 {
-    front(behind(run.segment.bytes, 8 * run.start as usize), run.count as usize)
+    front(
+        behind(run.segment.bytes, 8 * run.start as usize),
+        run.count as usize,
+    )
 }
 
 /// The text that the bytes are, where they are UTF-8.
@@ -353,7 +382,11 @@ fn text_from<'a>(from: &Segment<'a>, word: u32, budget: u64) -> Result<(&'a str,
 
 /// The text behind a pointer. Its cost is taken from the budget, unless there is a fault.
 #[tactic(auto, unfolding(crate::specs::Objects::text_behind))]
-pub fn text_behind<'a>(from: &Segment<'a>, word: u32, budget: &mut Budget) -> Result<&'a str, FrameFault>
+pub fn text_behind<'a>(
+    from: &Segment<'a>,
+    word: u32,
+    budget: &mut Budget,
+) -> Result<&'a str, FrameFault>
     requires { 8 * (word + 1) ≤ length from.now.bytes.now }
     ensures { Gives (λ text. text.now) result budget.old budget.new (text_behind (all_of from.now) from.now.number word budget.old) }
 {

@@ -3,14 +3,13 @@
 ghost use Rattle.std.specs.Prelude.{◌≡◌, ◌≤◌, ◌^◌, length, IfOk, IfErr};
 ghost use Rattle.ix_frame.specs.Segments.{IsFrame, segments};
 
-use byteorder::{ByteOrder, LittleEndian};
-use ix_num::{FrameFault, FrameRule};
-use std::marker::Model;
-
 use crate::follow::struct_behind;
 use crate::object::Obj;
 use crate::segment::Segment;
 use crate::table::sum_of_table;
+use byteorder::{ByteOrder, LittleEndian};
+use ix_num::{FrameFault, FrameRule};
+use std::marker::Model;
 
 /// What reading a message may still cost, in words. Each pointer that is followed is charged for the
 /// object behind it, so that no message, however its pointers share objects or lead back, is read for

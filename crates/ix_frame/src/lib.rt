@@ -11,11 +11,9 @@ mod frame;
 mod list;
 mod object;
 mod segment;
-
 mod table;
 mod target;
 
 pub use frame::{Budget, Frame};
 pub use list::{List, Numbers, Texts};
 pub use object::Obj;
-

@@ -2,14 +2,13 @@
 
 ghost use Rattle.std.specs.Prelude.{◌+◌, ◌*◌, ◌≤◌, length};
 
-use byteorder::{ByteOrder, LittleEndian};
-use ix_num::FrameFault;
-
 use crate::follow::text_behind;
 use crate::frame::Budget;
 use crate::object::Obj;
 use crate::segment::Segment;
 use crate::table::behind;
+use byteorder::{ByteOrder, LittleEndian};
+use ix_num::FrameFault;
 
 /// A list of structs, which stand one after another. A `Copy` value over the file's bytes.
 #[derive(Clone, Copy)]

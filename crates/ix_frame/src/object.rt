@@ -2,14 +2,15 @@
 
 ghost use Rattle.std.specs.Prelude.{◌+◌, ◌*◌, ◌≤◌, length};
 
-use byteorder::{ByteOrder, LittleEndian};
-use ix_num::FrameFault;
-
-use crate::follow::{Run, elements_behind, no_elements, no_run, no_struct, run_behind, struct_behind, text_behind};
+use crate::follow::{
+    Run, elements_behind, no_elements, no_run, no_struct, run_behind, struct_behind, text_behind,
+};
 use crate::frame::Budget;
 use crate::list::{List, Numbers, Texts};
 use crate::segment::Segment;
 use crate::table::behind;
+use byteorder::{ByteOrder, LittleEndian};
+use ix_num::FrameFault;
 
 /// A struct of a message: its place, and how many words its data and its pointers take. A `Copy` value over the
 /// file's bytes.
@@ -38,7 +39,10 @@ impl<'a> Obj<'a> {
         ensures { result ≡ u32_in (object_of self.now) slot }
     {
         if slot < 2 * self.data_words as u32 {
-            LittleEndian::read_u32(behind(self.segment.bytes, 8 * self.start as usize + 4 * slot as usize))
+            LittleEndian::read_u32(behind(
+                self.segment.bytes,
+                8 * self.start as usize + 4 * slot as usize,
+            ))
         } else {
             0
         }
@@ -63,7 +67,11 @@ impl<'a> Obj<'a> {
     pub fn has(&self, slot: u32) -> bool
         ensures { result ≡ has_pointer (object_of self.now) slot }
     {
-        slot < self.pointer_words as u32 && self.segment.word(self.start + self.data_words as u32 + slot) != 0
+        slot < self.pointer_words as u32
+            && self
+                .segment
+                .word(self.start + self.data_words as u32 + slot)
+                != 0
     }
 
     /// The struct behind this pointer, and one without words where the pointer is zero or past the pointer section.
@@ -73,7 +81,11 @@ impl<'a> Obj<'a> {
         ensures { Gives object_of result budget.old budget.new (struct_at (object_of self.now) slot budget.old) }
     {
         if slot < self.pointer_words as u32 {
-            struct_behind(&self.segment, self.start + self.data_words as u32 + slot, budget)
+            struct_behind(
+                &self.segment,
+                self.start + self.data_words as u32 + slot,
+                budget,
+            )
         } else {
             Ok(no_struct(&self.segment))
         }
@@ -85,7 +97,11 @@ impl<'a> Obj<'a> {
         ensures { Gives (λ text. text.now) result budget.old budget.new (text_at (object_of self.now) slot budget.old) }
     {
         if slot < self.pointer_words as u32 {
-            text_behind(&self.segment, self.start + self.data_words as u32 + slot, budget)
+            text_behind(
+                &self.segment,
+                self.start + self.data_words as u32 + slot,
+                budget,
+            )
         } else {
             Ok("")
         }
@@ -98,7 +114,11 @@ impl<'a> Obj<'a> {
         ensures { Gives elements_of result budget.old budget.new (elements_at (object_of self.now) slot budget.old) }
     {
         if slot < self.pointer_words as u32 {
-            elements_behind(&self.segment, self.start + self.data_words as u32 + slot, budget)
+            elements_behind(
+                &self.segment,
+                self.start + self.data_words as u32 + slot,
+                budget,
+            )
         } else {
             Ok(no_elements(&self.segment))
         }
@@ -111,7 +131,12 @@ impl<'a> Obj<'a> {
         ensures inside { IfOk result (IsRun size) }
     {
         if slot < self.pointer_words as u32 {
-            run_behind(size, &self.segment, self.start + self.data_words as u32 + slot, budget)
+            run_behind(
+                size,
+                &self.segment,
+                self.start + self.data_words as u32 + slot,
+                budget,
+            )
         } else {
             Ok(no_run(&self.segment))
         }

@@ -2,10 +2,9 @@
 
 ghost use Rattle.ix_frame.specs.Segments.{IsSegment};
 
-use byteorder::{ByteOrder, LittleEndian};
-
 use crate::frame::Frame;
 use crate::table::{behind, part};
+use byteorder::{ByteOrder, LittleEndian};
 
 /// A segment of a file, with its bytes at hand.
 #[derive(Clone, Copy)]

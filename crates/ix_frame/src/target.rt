@@ -6,9 +6,8 @@ ghost use Rattle.ix_frame.specs.Result.{Finds};
 ghost use Rattle.ix_frame.specs.Target.{offset_from, near, through_one_word, through_two_words, target, placed};
 ghost use Rattle.ix_frame.specs.Views.{all_of, aim_of, IsPlace};
 
-use ix_num::FrameRule;
-
 use crate::segment::Segment;
+use ix_num::FrameRule;
 
 /// What a pointer leads to: the word that describes the object, its segment, and the word at which it begins,
 /// none where that is before the segment.

@@ -2,3 +2,4 @@ pub mod Result
 pub mod Segments
 pub mod Target
 pub mod Objects
+pub mod Views

@@ -64,8 +64,11 @@ struct_found all budget (Some p) = do
   left ← charged (plain_cost found.1) budget
   Ok (found.0, left)
 
+abbrev pub struct_from : Segments → ℕ → ℕ → ℕ → Result (Object × ℕ) FrameRule
+struct_from all s w budget = target all s w >>= struct_found all budget
+
 unfoldable pub struct_behind : Segments → ℕ → ℕ → ℕ → Result (Object × ℕ) FrameFault
-struct_behind all s w budget = blamed s w (target all s w >>= struct_found all budget)
+struct_behind all s w budget = blamed s w (struct_from all s w budget)
 
 unfoldable pub elements_found : Segments → ℕ → Option Pointed → Result (Elements × ℕ) FrameRule
 elements_found all budget None = Ok (no_elements all, budget)
@@ -74,8 +77,11 @@ elements_found all budget (Some p) = do
   left ← charged (composite_cost found.0 found.1) budget
   Ok (found.0, left)
 
+abbrev pub elements_from : Segments → ℕ → ℕ → ℕ → Result (Elements × ℕ) FrameRule
+elements_from all s w budget = target all s w >>= elements_found all budget
+
 unfoldable pub elements_behind : Segments → ℕ → ℕ → ℕ → Result (Elements × ℕ) FrameFault
-elements_behind all s w budget = blamed s w (target all s w >>= elements_found all budget)
+elements_behind all s w budget = blamed s w (elements_from all s w budget)
 
 -- a list of bytes (element size 2), of numbers (4) or of pointers (6)
 unfoldable pub list_found : ℕ → Segments → ℕ → Option Pointed → Result (Elements × ℕ) FrameRule
@@ -85,8 +91,11 @@ list_found size all budget (Some p) = do
   left ← charged (plain_cost found.1) budget
   Ok (found.0, left)
 
+abbrev pub list_from : ℕ → Segments → ℕ → ℕ → ℕ → Result (Elements × ℕ) FrameRule
+list_from size all s w budget = target all s w >>= list_found size all budget
+
 unfoldable pub list_behind : ℕ → Segments → ℕ → ℕ → ℕ → Result (Elements × ℕ) FrameFault
-list_behind size all s w budget = blamed s w (target all s w >>= list_found size all budget)
+list_behind size all s w budget = blamed s w (list_from size all s w budget)
 
 -- the bytes of a list of bytes
 abbrev pub bytes_of : Elements → List ℕ
@@ -107,8 +116,11 @@ text_found all budget (Some p) = do
   text ← text_of (bytes_of found.0)
   Ok (text, found.1)
 
+abbrev pub text_from : Segments → ℕ → ℕ → ℕ → Result (List ℕ × ℕ) FrameRule
+text_from all s w budget = target all s w >>= text_found all budget
+
 unfoldable pub text_behind : Segments → ℕ → ℕ → ℕ → Result (List ℕ × ℕ) FrameFault
-text_behind all s w budget = blamed s w (target all s w >>= text_found all budget)
+text_behind all s w budget = blamed s w (text_from all s w budget)
 
 -- The fields of a struct by their pointer slots, and the default past its pointer section.
 

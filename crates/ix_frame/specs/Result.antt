@@ -16,3 +16,8 @@ unless false fault = Err fault
 abbrev pub Gives : {X Y E Z : Type 0} → (X → Y) → Result X E → (before now : Z) → Result (Y × Z) E → Type 0
 Gives view (Ok x) before now given = given ≡ Ok (view x, now)
 Gives view (Err e) before now given = (given ≡ Err e) × (now ≡ before)
+
+-- What a call that changes nothing returned, seen by view, is what the definition gives.
+abbrev pub Finds : {X Y E : Type 0} → (X → Y) → Result X E → Result Y E → Type 0
+Finds view (Ok x) given = given ≡ Ok (view x)
+Finds view (Err e) given = given ≡ Err e

@@ -1,6 +1,6 @@
 -- The segments of a frame: Cap'n Proto encoding specification, "Serialization Over a Stream". A byte is a
 -- number below 256, a segment the list of its bytes, and a word eight bytes, the lowest first.
-use Rattle.std.specs.Prelude.{ℕ, zero, suc, ◌+◌, ◌*◌, ◌/◌, List, [], ◌∷◌, length, map, sum, take, drop, Bool, ◌&&◌, nat_lt, nat_le, ◌==◌, Result, Ok, Err, if◌then◌else◌, slice_index_or}
+use Rattle.std.specs.Prelude.{◌≡◌, ℕ, zero, suc, ◌+◌, ◌*◌, ◌/◌, ◌^◌, ◌<◌, ◌≤◌, List, [], ◌∷◌, length, map, sum, take, drop, Bool, ◌&&◌, nat_lt, nat_le, ◌==◌, Result, Ok, Err, if◌then◌else◌, slice_index_or}
 use Rattle.byteorder.specs.Endian.{little_number}
 use Rattle.ix_num.specs.declared.fault.FrameRule.{FrameRule}
 use Rattle.ix_num.specs.declared.fault.FrameRule.TheVariants.{F1, F2}
@@ -35,6 +35,10 @@ unfoldable pub cut : List ℕ → List ℕ → Segments
 cut [] bytes = []
 cut (n ∷ ns) bytes = take (8 * n) bytes ∷ cut ns (drop (8 * n) bytes)
 
+-- the parts that the file's table cuts out of the bytes behind it
+unfoldable pub cut_out : List ℕ → Segments
+cut_out bytes = cut (segment_words bytes) (drop (table_length (segment_count bytes)) bytes)
+
 -- The segments that the file's table cuts out, the whole file used, or the first of F1 and F2: too short for
 -- the count, too many segments, a table that is cut, another length than the table's.
 unfoldable pub segments : List ℕ → Result Segments FrameRule
@@ -43,7 +47,7 @@ segments bytes =
     else if nat_lt most_segments (segment_count bytes) then Err F2
     else if nat_lt (length bytes) (table_length (segment_count bytes)) then Err F1
     else if length bytes == table_length (segment_count bytes) + 8 * sum (segment_words bytes)
-    then Ok (cut (segment_words bytes) (drop (table_length (segment_count bytes)) bytes))
+    then Ok (cut_out bytes)
     else Err F1
 
 -- the segments of a file that keeps F1 and F2
@@ -66,3 +70,16 @@ has_words all s start n = nat_lt s (length all) && nat_le (8 * (start + n)) (len
 -- the words of all segments, the table not counted
 abbrev pub word_count : Segments → ℕ
 word_count all = sum (map length all) / 8
+
+-- the file keeps F1 and F2, and F9
+pub record IsFrame (bytes : List ℕ) : Type 0 where
+  pub short : length bytes ≤ 2 ^ 30
+  pub counted : 4 ≤ length bytes
+  pub few : segment_count bytes ≤ most_segments
+  pub whole : length bytes ≡ table_length (segment_count bytes) + 8 * sum (segment_words bytes)
+
+-- these bytes are the file's segment with this number
+pub record IsSegment (file : List ℕ) (number : ℕ) (bytes : List ℕ) : Type 0 where
+  pub there : number < length (cut_out file)
+  pub is : bytes ≡ segment_at (cut_out file) number
+  pub short : length bytes ≤ 2 ^ 30

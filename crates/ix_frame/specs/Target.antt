@@ -88,9 +88,9 @@ target all s w = let word = word_at (segment_at all s) w in
 unfoldable pub placed : Segments → Pointed → ℕ → Result ℕ FrameRule
 placed all p n = start_in p.start
   where
-  start_in : Option ℕ → Result ℕ FrameRule
-  start_in None = Err F3
-  start_in (Some start) = if has_words all p.segment start n then Ok start else Err F3
+    start_in : Option ℕ → Result ℕ FrameRule
+    start_in None = Err F3
+    start_in (Some start) = if has_words all p.segment start n then Ok start else Err F3
 
 -- A struct, or a list's first element with all of them alike: its segment, where it begins, and its two sections.
 pub record Object : Type 0 where

@@ -156,6 +156,10 @@ numbers_in l = numbers_of_four l.count (drop (8 * l.first.start) (segment_at l.f
 abbrev pub text_in : Elements → ℕ → ℕ → Result (List ℕ × ℕ) FrameFault
 text_in l i budget = text_behind l.first.segments l.first.segment (l.first.start + i) budget
 
+-- the root pointer, which is word 0 of segment 0, is there and isn't zero
+unfoldable pub has_root : Segments → Bool
+has_root all = has_words all 0 0 1 && not (word_at (segment_at all 0) 0 == 0)
+
 -- The struct that the root pointer leads to, which is word 0 of segment 0.
 unfoldable pub root_of : Segments → ℕ → Result (Object × ℕ) FrameFault
 root_of all budget =

@@ -77,7 +77,7 @@ fn in_file(rule: FrameRule) -> FrameFault
 
 impl<'a> Frame<'a> {
     ghost use Rattle.std.specs.Prelude.{Ok, Err};
-    ghost use Rattle.ix_frame.specs.Objects.{blamed, root_of};
+    ghost use Rattle.ix_frame.specs.Objects.{blamed, has_root, root_of};
     ghost use Rattle.ix_frame.specs.Result.{Gives};
     ghost use Rattle.ix_frame.specs.Views.{segments_of, object_of};
 
@@ -108,6 +108,18 @@ impl<'a> Frame<'a> {
             Err(in_file(FrameRule::F1))
         }
     }
+
+    /// Whether the root pointer, which is word 0 of segment 0, is there and isn't zero.
+    #[tactic(auto, unfolding(crate::specs::Objects::has_root))]
+    pub fn has_root(&self) -> bool
+        ensures { result ≡ has_root (segments_of self.now) }
+    {
+        match Segment::of(self, 0) {
+            Some(segment) => segment.has(0, 1) && segment.word(0) != 0,
+            None => false,
+        }
+    }
+
     /// The struct that the root pointer leads to, which is word 0 of segment 0; a struct without words where it is zero.
     /// F5, F4, F3 (also where segment 0 has no word) or F7, at word 0 of segment 0, after which the budget is as before.
     #[tactic(auto, unfolding(crate::specs::Objects::root_of))]

@@ -1,0 +1,4 @@
+pub mod Words
+pub mod FirstForm
+pub mod PartsView
+pub mod Answer

@@ -1,0 +1,4 @@
+//! The program over any shelf and sink.
+#![tactic(auto)]
+
+mod first_form;

@@ -3,7 +3,7 @@ use Rattle.std.proofs.Common.{◌≡◌, ◌≤◌, ◌<◌, ◌+◌, ◌-◌, �
 use mathlib.Core.Path.{fun_ext}
 use Rattle.std.specs.Str.{bytes_eq}
 use Rattle.std.proofs.Math.Seq.{take-add}
-use Rattle.std.proofs.lemmas.List.{append_assoc, length-drop, take_all}
+use Rattle.std.proofs.lemmas.List.{append_assoc, length-drop, length-take, take_all, take_min, take-take}
 use Rattle.std.proofs.lemmas.Bool.Decides.{nat_tests}
 use Rattle.std.proofs.lemmas.Slice.Eq.{bytes_eq-Decides}
 use Rattle.ix_shelf.specs.Shelf.{Files, Rose, with_file, after_append}
@@ -59,3 +59,19 @@ pub written-more : (name bytes piece : List ℕ) (at n : ℕ) (old now new : Opt
 written-more name bytes piece at n None now new some same p q = q ∙ ap (option_map (after_append name piece n)) p
 written-more name bytes piece at n (Some files) now new some same p q =
     q ∙ ap (option_map (after_append name piece n)) p ∙ ap Some (after_append-more name bytes piece at n files some same)
+
+-- a slice from a place on, no longer than what is left
+pub take-cut : (bytes : List ℕ) (at m k : ℕ) → k ≡ min m (length bytes - at) → take (at + k - at) (drop at bytes) ≡ take m (drop at bytes)
+take-cut bytes at m k h =
+    ap (λ (j : ℕ). take j (drop at bytes)) (let e : at + k - at ≡ min m (length (drop at bytes)) = omega (arith, length-drop at bytes) in e)
+    ∙ take_min m (drop at bytes)
+
+-- the front of a piece is the front of what the piece was cut from
+pub take-piece : (xs piece : List ℕ) (n m : ℕ) → piece ≡ take m xs → n ≤ length piece → take n piece ≡ take n xs
+take-piece xs piece n m e h =
+    ap (λ (ys : List ℕ). take n ys) e ∙ take-take n m xs (omega (arith, ap length e, length-take m xs))
+
+-- what was taken of a piece is within the bytes
+pub within-piece : (bytes piece : List ℕ) (at n m : ℕ) → piece ≡ take m (drop at bytes) → n ≤ length piece → at ≤ length bytes → at + n ≤ length bytes
+within-piece bytes piece at n m e h p =
+    omega (arith, ap length e, length-take m (drop at bytes), length-drop at bytes)

@@ -5,9 +5,9 @@ use Rattle.ix_shelf.proofs.sink.say.Goals as goal
 
 pub loop-at-preserved : goal.loop-at-preserved
 loop-at-preserved g c =
-    let bytes = c.args.bytes.now in
-    let at = c.loop-at.at in
-    let n = c.in_ok-taken.taken in
+    let bytes : List ℕ = c.args.bytes.now in
+    let at : ℕ = c.loop-at.at in
+    let n : ℕ = c.in_ok-taken.taken in
     let piece : List ℕ = take (length bytes - at) (drop at bytes) in
     record {
       in_range = search rules;

@@ -28,23 +28,28 @@ front_more file bytes into n p q h =
     ∙ ap (λ (ys : List ℕ). bytes ++ ys) (sym q)
 
 -- one more read
-pub IsFront-more : (told : Option Files) (name bytes into : List ℕ) (room n : ℕ) → IsFront told name bytes → ReadsFile told name (length bytes) room into n → n ≤ length into → IsFront told name (bytes ++ take n into)
-IsFront-more None name bytes into room n p q h = tt
-IsFront-more (Some files) name bytes into room n p q h = λ file e.
+pub IsFront-more : (told : Option Files) (name bytes into : List ℕ) (at room n : ℕ) → at ≡ length bytes → IsFront told name bytes → ReadsFile told name at room into n → n ≤ length into → IsFront told name (bytes ++ take n into)
+IsFront-more None name bytes into at room n a p q h = tt
+IsFront-more (Some files) name bytes into at room n a p q h = λ file e.
     let s : file ≡ q.0 = one_file file q.0 (files name) e q.1 in
-    front_more file bytes into n (p file e) (q.2 ∙ ap (λ (xs : List ℕ). take n (drop (length bytes) xs)) (sym s)) h
+    front_more file bytes into n (p file e) (q.2 ∙ ap (λ (k : ℕ). take n (drop k q.0)) a ∙ ap (λ (xs : List ℕ). take n (drop (length bytes) xs)) (sym s)) h
 
 whole : (file bytes : List ℕ) → take (length bytes) file ≡ bytes → length file ≤ length bytes → file ≡ bytes
 whole file bytes p h = sym (take_all (length bytes) file h) ∙ p
 
 -- the last read
-pub IsFront-end : (told : Option Files) (name bytes into : List ℕ) (room n : ℕ) → IsFront told name bytes → ReadsFile told name (length bytes) room into n → n ≡ 0 → 0 < room → IsWholeFile told name bytes
-IsFront-end None name bytes into room n p q z r = tt
-IsFront-end (Some files) name bytes into room n p q z r =
-    q.1 ∙ ap Some (whole q.0 bytes (p q.0 q.1) (q.3 z r))
+pub IsFront-end : (told : Option Files) (name bytes into : List ℕ) (at room n : ℕ) → at ≡ length bytes → IsFront told name bytes → ReadsFile told name at room into n → n ≡ 0 → 0 < room → IsWholeFile told name bytes
+IsFront-end None name bytes into at room n a p q z r = tt
+IsFront-end (Some files) name bytes into at room n a p q z r =
+    q.1 ∙ ap Some (whole q.0 bytes (p q.0 q.1) (omega (arith, q.3 z r)))
 
 -- a read past the limit
-pub IsTooLarge-read : (told : Option Files) (name bytes into : List ℕ) (room n most : ℕ) → ReadsFile told name (length bytes) room into n → n ≤ length into → length bytes ≤ most → most - length bytes < n → IsTooLarge told name most
-IsTooLarge-read None name bytes into room n most q h s m = tt
-IsTooLarge-read (Some files) name bytes into room n most q h s m =
-    (q.0, q.1, omega (arith, found q.0 into (length bytes) n q.2 h, length-drop (length bytes) q.0))
+pub IsTooLarge-read : (told : Option Files) (name into : List ℕ) (at room n most : ℕ) → ReadsFile told name at room into n → n ≤ length into → at ≤ most → most - at < n → IsTooLarge told name most
+IsTooLarge-read None name into at room n most q h s m = tt
+IsTooLarge-read (Some files) name into at room n most q h s m =
+    (q.0, q.1, omega (arith, found q.0 into at n q.2 h, length-drop at q.0))
+
+-- the vector after a read was added to it
+pub read_more : (told : Option Files) (name bytes into new : List ℕ) (at room n : ℕ) → at ≡ length bytes → IsFront told name bytes → ReadsFile told name at room into n → n ≤ length into → new ≡ bytes ++ take n into → IsFront told name new
+read_more told name bytes into new at room n a p q h e =
+    subst (λ (xs : List ℕ). IsFront told name xs) (sym e) (IsFront-more told name bytes into at room n a p q h)

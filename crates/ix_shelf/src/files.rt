@@ -1,6 +1,6 @@
 //! Whole files of a shelf.
 
-ghost use Rattle.std.specs.Prelude.{◌≡◌, ◌≢◌, ◌≤◌, ◌⊎◌, ◌^◌, length, take, drop, vec_len, option_map, Err, IfOk, OnOk, IfErr, OnErr, IsErrOf};
+ghost use Rattle.std.specs.Prelude.{◌≡◌, ◌≢◌, ◌<◌, ◌≤◌, ◌⊎◌, ◌^◌, length, take, drop, vec_len, option_map, Err, IfOk, OnOk, IfErr, OnErr, IsErrOf};
 ghost use Rattle.ix_shelf.specs.Shelf.{with_file, Rose, IsAbsent, IsWholeFile, IsTooLarge, LeavesPrefix};
 
 use crate::shelf::Shelf;
@@ -84,8 +84,9 @@ fn read_by<S: Shelf>(alloc: Global, shelf: &mut S, name: &str, buffer: &mut [u8]
         if given > MOST_BYTES - bytes.len() {
             return Err(FileFault::TooLarge);
         }
-        if bytes.extend_from_slice(&buffer[..given]).is_err() {
-            return Err(FileFault::Memory);
+        match bytes.extend_from_slice(&buffer[..given]) {
+            Ok(()) => {}
+            Err(_) => return Err(FileFault::Memory),
         }
     }
 }

@@ -1,2 +1,4 @@
+pub mod Faults
+pub mod MemSink
 pub mod Shelf
 pub mod Sink

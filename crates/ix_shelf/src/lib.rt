@@ -6,9 +6,12 @@
 #![tactic(auto)]
 
 mod files;
+mod mem_sink;
+mod plan;
 mod shelf;
 mod sink;
 
 pub use files::{FileFault, read_file, write_file};
+pub use mem_sink::MemSink;
 pub use shelf::{Failed, Shelf};
 pub use sink::{Sink, say};

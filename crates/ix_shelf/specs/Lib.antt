@@ -1,4 +1,6 @@
 pub mod Faults
+pub mod MemFiles
+pub mod MemShelf
 pub mod MemSink
 pub mod Shelf
 pub mod Sink

@@ -6,12 +6,15 @@
 #![tactic(auto)]
 
 mod files;
+mod mem_files;
+mod mem_shelf;
 mod mem_sink;
 mod plan;
 mod shelf;
 mod sink;
 
 pub use files::{FileFault, read_file, write_file};
+pub use mem_shelf::MemShelf;
 pub use mem_sink::MemSink;
 pub use shelf::{Failed, Shelf};
 pub use sink::{Sink, say};

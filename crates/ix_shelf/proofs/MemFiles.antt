@@ -33,3 +33,13 @@ with_file-itself name bytes files e = fun_ext (λ other. at_itself (bytes_eq nam
 -- a file that is there, as its bytes
 pub file_is : {Y Z : Type 0} (name : List ℕ) (map : BTreeMap (String Y) (Vec ℕ Z)) (file : Vec ℕ Z) → Some file ≡ get_by_text map name → files_in map name ≡ Some file.items
 file_is {Y} {Z} name map file e = ap (λ (o : Option (Vec ℕ Z)). option_map (λ (f : Vec ℕ Z). f.items) o) (sym e)
+
+-- a piece was added to a file that is there
+pub file_added : (name before piece bytes : List ℕ) (old new : Files) → new ≡ with_file name bytes old → bytes ≡ before ++ piece → old name ≡ Some before → new ≡ with_file name (unwrap_or (old name) [] ++ piece) old
+file_added name before piece bytes old new p q e =
+    p ∙ ap (λ (xs : List ℕ). with_file name xs old) (q ∙ ap (λ (o : Option (List ℕ)). unwrap_or o [] ++ piece) (sym e))
+
+-- a file that is there was kept
+pub file_kept : (name before bytes : List ℕ) (old new : Files) → new ≡ with_file name bytes old → bytes ≡ before → old name ≡ Some before → new ≡ old
+file_kept name before bytes old new p q e =
+    p ∙ ap (λ (xs : List ℕ). with_file name xs old) q ∙ with_file-itself name before old e

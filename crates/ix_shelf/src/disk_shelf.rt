@@ -1,6 +1,8 @@
 //! The files of the system as a shelf.
 
-ghost use Rattle.std.specs.Prelude.{◌≡◌, ◌≤◌, None, length, IfOk};
+ghost use Rattle.std.specs.Prelude.{◌≡◌, ◌<◌, ◌≤◌, ◌⊎◌, [], length, option_map, IfOk, OnOk, OnErr};
+ghost use Rattle.ix_shelf.specs.Shelf.{with_file, after_append, Rose, IsAbsent, ReadsFile};
+ghost use Rattle.ix_shelf.specs.Faults.{risen, faults_after};
 
 use crate::shelf::{Failed, Shelf};
 use std::fs::{File, Files, OpenOptions};
@@ -20,8 +22,13 @@ pub struct DiskShelf<'a, R> {
 }
 
 impl<'a, R: Files> DiskShelf<'a, R> {
+    ghost use Rattle.ix_shelf.specs.DiskShelf.{read_faults_of, write_faults_of};
+
     /// A shelf of the files that the runtime reaches, with no faults.
-    pub fn new(rt: &'a R) -> DiskShelf<'a, R> {
+    pub fn new(rt: &'a R) -> DiskShelf<'a, R>
+        ensures read_faults { read_faults_of result ≡ 0 }
+        ensures write_faults { write_faults_of result ≡ 0 }
+    {
         DiskShelf {
             rt,
             read_faults: 0,
@@ -48,13 +55,26 @@ fn append_part<R: Files>(rt: &R, name: &str, piece: &[u8]) -> io::Result<usize>
 }
 
 impl<R: Files> Shelf for DiskShelf<'_, R> {
-    ghost files = { λ _. None };
+    ghost use Rattle.ix_shelf.specs.DiskShelf.{files_of, read_faults_of, write_faults_of};
 
-    ghost read_faults = { λ shelf. shelf.read_faults };
+    ghost files = { λ shelf. files_of shelf };
 
-    ghost write_faults = { λ shelf. shelf.write_faults };
+    ghost read_faults = { λ shelf. read_faults_of shelf };
 
-    fn read_at(&mut self, name: &str, at: u64, into: &mut [u8]) -> Result<usize, Failed> {
+    ghost write_faults = { λ shelf. write_faults_of shelf };
+
+    /// As of every shelf. Where it fails, and only there, the count of read faults rises, by one.
+    fn read_at(&mut self, name: &str, at: u64, into: &mut [u8]) -> Result<usize, Failed>
+        ensures files { files_of self.new ≡ files_of self.old }
+        ensures write_faults { write_faults_of self.new ≡ write_faults_of self.old }
+        ensures read_faults { read_faults_of self.old ≤ read_faults_of self.new }
+        ensures room { IfOk result (λ n. n ≤ length into.old) }
+        ensures bytes { IfOk result (λ n. ReadsFile (files_of self.old) name.now at (length into.old) into.new n) }
+        ensures cause { OnErr result (Rose (read_faults_of self.old) (read_faults_of self.new) ⊎ IsAbsent (files_of self.old) name.now) }
+
+        ensures ok { OnOk result (read_faults_of self.new ≡ read_faults_of self.old) }
+        ensures err { OnErr result (read_faults_of self.new ≡ risen (read_faults_of self.old)) }
+    {
         match read_part(self.rt, name, at, into) {
             Ok(given) => Ok(given),
             Err(_) => {
@@ -64,7 +84,17 @@ impl<R: Files> Shelf for DiskShelf<'_, R> {
         }
     }
 
-    fn create(&mut self, name: &str) -> Result<(), Failed> {
+    /// As of every shelf. Where it fails, and only there, the count of write faults rises, by one.
+    fn create(&mut self, name: &str) -> Result<(), Failed>
+        ensures read_faults { read_faults_of self.new ≡ read_faults_of self.old }
+        ensures write_faults { write_faults_of self.old ≤ write_faults_of self.new }
+        ensures made { OnOk result (files_of self.new ≡ option_map (with_file name.now []) (files_of self.old)) }
+        ensures unchanged { OnErr result (files_of self.new ≡ files_of self.old) }
+        ensures cause { OnErr result (Rose (write_faults_of self.old) (write_faults_of self.new)) }
+
+        ensures ok { OnOk result (write_faults_of self.new ≡ write_faults_of self.old) }
+        ensures err { OnErr result (write_faults_of self.new ≡ risen (write_faults_of self.old)) }
+    {
         match File::create(self.rt, name) {
             Ok(_) => Ok(()),
             Err(_) => {
@@ -74,7 +104,19 @@ impl<R: Files> Shelf for DiskShelf<'_, R> {
         }
     }
 
-    fn append(&mut self, name: &str, piece: &[u8]) -> Result<usize, Failed> {
+    /// As of every shelf. Where it fails, or takes nothing of a piece that isn't empty, and only there, the count of
+    /// write faults rises, by one.
+    fn append(&mut self, name: &str, piece: &[u8]) -> Result<usize, Failed>
+        ensures read_faults { read_faults_of self.new ≡ read_faults_of self.old }
+        ensures write_faults { write_faults_of self.old ≤ write_faults_of self.new }
+        ensures taken { IfOk result (λ n. n ≤ length piece.now) }
+        ensures added { IfOk result (λ n. files_of self.new ≡ option_map (after_append name.now piece.now n) (files_of self.old)) }
+        ensures nothing { IfOk result (λ n. n ≡ 0 → 0 < length piece.now → Rose (write_faults_of self.old) (write_faults_of self.new)) }
+        ensures unchanged { OnErr result (files_of self.new ≡ files_of self.old) }
+        ensures cause { OnErr result (Rose (write_faults_of self.old) (write_faults_of self.new)) }
+
+        ensures count { write_faults_of self.new ≡ faults_after result piece.now (write_faults_of self.old) }
+    {
         match append_part(self.rt, name, piece) {
             Ok(taken) => {
                 if taken == 0 && !piece.is_empty() {

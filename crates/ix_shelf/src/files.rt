@@ -1,10 +1,10 @@
 //! Whole files of a shelf.
 
-ghost use Rattle.std.specs.Prelude.{◌≡◌, ◌≢◌, ◌≤◌, ◌⊎◌, ◌^◌, length, take, drop, vec_len, option_map, Err, IfOk, OnOk, IfErr, OnErr, IsErrOf};
+ghost use Rattle.std.specs.Prelude.{◌≡◌, ◌≢◌, ◌<◌, ◌≤◌, ◌⊎◌, ◌^◌, length, take, drop, vec_len, option_map, Err, IfOk, OnOk, IfErr, OnErr, IsErrOf};
 ghost use Rattle.ix_shelf.specs.Shelf.{with_file, Rose, IsAbsent, IsWholeFile, IsTooLarge, LeavesPrefix};
 
 use crate::shelf::Shelf;
-use std::alloc::Global;
+use std::alloc::{AllocError, Global};
 use thiserror::Error;
 
 /// Why a file could not be read or written as a whole.
@@ -27,6 +27,19 @@ pub enum FileFault {
 /// The longest file that is read: 2^30 bytes.
 pub const MOST_BYTES: usize = 1 << 30;
 
+/// The longest piece that one append is given.
+const PIECE_BYTES: usize = 65_536;
+
+/// How many bytes one read asks for at most.
+const BUFFER_BYTES: usize = 1 << 20;
+
+/// Zeros to read into, as many as asked for.
+fn make_buffer(alloc: Global, size: usize) -> Result<Vec<u8>, AllocError>
+    ensures { IfOk result (λ buffer. vec_len buffer ≡ size) }
+{
+    vec![in alloc; 0; size]
+}
+
 /// The bytes of a file to its end.
 ///
 /// `Read` comes only where the count of read faults rose in this call, or where the shelf tells its files and has
@@ -41,10 +54,54 @@ pub fn read_file<S: Shelf>(alloc: Global, shelf: &mut S, name: &str) -> Result<V
     ensures too_large { IsErrOf result FileFault.TooLarge → IsTooLarge (S.files shelf.old) name.now (2 ^ 30) }
     ensures not_write { result ≢ Err FileFault.Write }
 {
-    Err(FileFault::Memory)
+    match make_buffer(alloc, BUFFER_BYTES) {
+        Ok(mut buffer) => read_by(alloc, shelf, name, buffer.as_mut_slice()),
+        Err(_) => Err(FileFault::Memory),
+    }
 }
 
-/// Makes the file these bytes: creates it, then appends pieces until all bytes are taken.
+/// As `read_file`, through a buffer that isn't empty.
+fn read_by<S: Shelf>(alloc: Global, shelf: &mut S, name: &str, buffer: &mut [u8]) -> Result<Vec<u8>, FileFault>
+    requires { 0 < length buffer.old }
+    ensures files { S.files shelf.new ≡ S.files shelf.old }
+    ensures write_faults { S.write_faults shelf.new ≡ S.write_faults shelf.old }
+    ensures read_faults { S.read_faults shelf.old ≤ S.read_faults shelf.new }
+    ensures whole { IfOk result (λ bytes. IsWholeFile (S.files shelf.old) name.now bytes.items) }
+    ensures small { IfOk result (λ bytes. vec_len bytes ≤ 2 ^ 30) }
+    ensures read { IsErrOf result FileFault.Read → Rose (S.read_faults shelf.old) (S.read_faults shelf.new) ⊎ IsAbsent (S.files shelf.old) name.now }
+    ensures too_large { IsErrOf result FileFault.TooLarge → IsTooLarge (S.files shelf.old) name.now (2 ^ 30) }
+    ensures not_write { result ≢ Err FileFault.Write }
+{
+    let mut bytes = Vec::new(alloc);
+    loop {
+        let given = match shelf.read_at(name, bytes.len() as u64, buffer) {
+            Ok(given) => given,
+            Err(_) => return Err(FileFault::Read),
+        };
+        if given == 0 {
+            return Ok(bytes);
+        }
+        if given > MOST_BYTES - bytes.len() {
+            return Err(FileFault::TooLarge);
+        }
+        match bytes.extend_from_slice(&buffer[..given]) {
+            Ok(()) => {}
+            Err(_) => return Err(FileFault::Memory),
+        }
+    }
+}
+
+/// The next piece of the bytes from a place on: 65,536 bytes, or all that are left where these are fewer.
+fn next_piece(bytes: &[u8], at: usize) -> &[u8]
+    requires { at ≤ length bytes.now }
+    ensures { result.now ≡ take 65536 (drop at bytes.now) }
+{
+    let size = PIECE_BYTES.min(bytes.len() - at);
+    &bytes[at..at + size]
+}
+
+/// Makes the file these bytes: creates it, then appends pieces until all bytes are taken. Each append is given the
+/// next 65,536 bytes, or all that are left where these are fewer.
 ///
 /// It fails with `Write` alone, and only where the count of write faults rose in this call. Then the file holds a
 /// prefix of the bytes, or all is as before where it could not be created. It takes no memory.
@@ -56,5 +113,19 @@ pub fn write_file<S: Shelf>(shelf: &mut S, name: &str, bytes: &[u8]) -> Result<(
     ensures cause { OnErr result (Rose (S.write_faults shelf.old) (S.write_faults shelf.new)) }
     ensures only_write { IfErr result (λ fault. fault ≡ FileFault.Write) }
 {
-    Err(FileFault::Write)
+    if shelf.create(name).is_err() {
+        return Err(FileFault::Write);
+    }
+    let mut at = 0;
+    while at < bytes.len() {
+        let taken = match shelf.append(name, next_piece(bytes, at)) {
+            Ok(taken) => taken,
+            Err(_) => return Err(FileFault::Write),
+        };
+        if taken == 0 {
+            return Err(FileFault::Write);
+        }
+        at += taken;
+    }
+    Ok(())
 }

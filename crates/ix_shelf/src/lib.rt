@@ -5,10 +5,20 @@
 //! standard output.
 #![tactic(auto)]
 
+mod disk_shelf;
 mod files;
+mod mem_files;
+mod mem_shelf;
+mod mem_sink;
+mod out_sink;
+mod plan;
 mod shelf;
 mod sink;
 
+pub use disk_shelf::DiskShelf;
 pub use files::{FileFault, read_file, write_file};
+pub use mem_shelf::MemShelf;
+pub use mem_sink::MemSink;
+pub use out_sink::OutSink;
 pub use shelf::{Failed, Shelf};
 pub use sink::{Sink, say};

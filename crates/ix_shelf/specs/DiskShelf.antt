@@ -1,0 +1,17 @@
+-- What a shelf of real files tells.
+use Rattle.std.specs.Prelude.{ℕ, Option, None}
+use Rattle.ix_shelf.specs.Shelf.{Files}
+use Rattle.ix_shelf.specs.declared.disk_shelf.DiskShelf.{DiskShelf}
+
+module _ {R : Type 0} where
+  -- it tells no files
+  abbrev pub files_of : DiskShelf R → Option Files
+  files_of shelf = None
+
+  -- how many reads failed
+  abbrev pub read_faults_of : DiskShelf R → ℕ
+  read_faults_of shelf = shelf.read_faults
+
+  -- how many creates and appends failed, or took nothing of a piece that isn't empty
+  abbrev pub write_faults_of : DiskShelf R → ℕ
+  write_faults_of shelf = shelf.write_faults

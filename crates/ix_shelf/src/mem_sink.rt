@@ -1,0 +1,111 @@
+//! A sink in memory.
+
+ghost use Rattle.std.specs.Prelude.{◌≡◌, ◌<◌, ◌≤◌, ◌++◌, ◌∷◌, [], ℕ, List, length, take, Option, Some, IsErr, IfOk, OnOk, OnErr};
+ghost use Rattle.ix_shelf.specs.Shelf.{Rose};
+ghost use Rattle.ix_shelf.specs.Sink.{with_bytes};
+ghost use Rattle.ix_shelf.specs.Faults.{risen, IsNamed};
+
+use crate::plan::Plan;
+use crate::shelf::Failed;
+use crate::sink::Sink;
+use ix_num::Memory;
+use std::alloc::Global;
+
+/// A sink that keeps its bytes in memory, and fails at the calls that it was told to.
+///
+/// Its calls of `put` are numbered from 0. All its counts stay at the end of their type.
+#[derive(Drop)]
+pub struct MemSink {
+    bytes: Vec<u8>,
+    plan: Plan,
+    faults: u64,
+    starved: u64,
+}
+
+impl MemSink {
+    ghost use Rattle.ix_shelf.specs.MemSink.{bytes_of, calls_of, failing_of, faults_of, starved_of};
+
+    /// A sink with no bytes, of which no call is to fail.
+    pub fn new(alloc: Global) -> MemSink
+        ensures bytes { bytes_of result ≡ [] }
+        ensures calls { calls_of result ≡ 0 }
+        ensures failing { failing_of result ≡ [] }
+        ensures faults { faults_of result ≡ 0 }
+        ensures starved { starved_of result ≡ 0 }
+    {
+        MemSink {
+            bytes: Vec::new(alloc),
+            plan: Plan::new(alloc),
+            faults: 0,
+            starved: 0,
+        }
+    }
+
+    /// The bytes put so far.
+    pub fn bytes(&self) -> &[u8]
+        ensures { result.now ≡ bytes_of self.now }
+    {
+        self.bytes.as_slice()
+    }
+
+    /// Lets the call with this number, from 0, fail. `Memory` leaves all as before.
+    pub fn fail_at(&mut self, call: u64) -> Result<(), Memory>
+        ensures ok { OnOk result (failing_of self.new ≡ failing_of self.old ++ call ∷ []) }
+        ensures err { OnErr result (failing_of self.new ≡ failing_of self.old) }
+        ensures bytes { bytes_of self.new ≡ bytes_of self.old }
+        ensures calls { calls_of self.new ≡ calls_of self.old }
+        ensures faults { faults_of self.new ≡ faults_of self.old }
+        ensures starved { starved_of self.new ≡ starved_of self.old }
+    {
+        self.plan.fail_at(call)
+    }
+
+    /// How many calls failed because memory ran out.
+    pub fn starved(&self) -> u64
+        ensures { result ≡ starved_of self.now }
+    {
+        self.starved
+    }
+}
+
+impl Sink for MemSink {
+    ghost use Rattle.ix_shelf.specs.MemSink.{bytes_of, calls_of, failing_of, faults_of, starved_of};
+
+    ghost told = { λ sink. Some (bytes_of sink) };
+
+    ghost faults = { λ sink. faults_of sink };
+
+    /// As of every sink. The number of the next call rises by one. A call that is to fail does; another one takes its
+    /// whole piece, or fails because memory ran out, which counts as a fault and as starved.
+    fn put(&mut self, piece: &[u8]) -> Result<usize, Failed>
+        ensures faults { faults_of self.old ≤ faults_of self.new }
+        ensures taken { IfOk result (λ n. n ≤ length piece.now) }
+        ensures put { IfOk result (λ n. Some (bytes_of self.new) ≡ with_bytes (take n piece.now) (Some (bytes_of self.old))) }
+        ensures nothing { IfOk result (λ n. n ≡ 0 → 0 < length piece.now → Rose (faults_of self.old) (faults_of self.new)) }
+        ensures unchanged { OnErr result (Some (bytes_of self.new) ≡ Some (bytes_of self.old)) }
+        ensures cause { OnErr result (Rose (faults_of self.old) (faults_of self.new)) }
+
+        ensures number { calls_of self.new ≡ risen (calls_of self.old) }
+        ensures plan { failing_of self.new ≡ failing_of self.old }
+        ensures named { IsNamed (failing_of self.old) (calls_of self.old) → IsErr result }
+        ensures whole { IfOk result (λ n. n ≡ length piece.now) }
+        ensures ok_count { OnOk result (faults_of self.new ≡ faults_of self.old) }
+        ensures ok_starved { OnOk result (starved_of self.new ≡ starved_of self.old) }
+        ensures err_count { OnErr result (faults_of self.new ≡ risen (faults_of self.old)) }
+        ensures named_starved { IsNamed (failing_of self.old) (calls_of self.old) → starved_of self.new ≡ starved_of self.old }
+        ensures starved { ¬ IsNamed (failing_of self.old) (calls_of self.old) → OnErr result (starved_of self.new ≡ risen (starved_of self.old)) }
+    {
+        if self.plan.next_fails() {
+            self.faults = self.faults.saturating_add(1);
+            return Err(Failed);
+        }
+        match self.bytes.extend_from_slice(piece) {
+            Ok(()) => Ok(piece.len()),
+            Err(_) => {
+                self.faults = self.faults.saturating_add(1);
+                self.starved = self.starved.saturating_add(1);
+                Err(Failed)
+            }
+        }
+    }
+}

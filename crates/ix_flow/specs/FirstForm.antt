@@ -1,11 +1,11 @@
 -- The files that the program can handle so far: a device whose root pointer is zero, and a design whose top has no
 -- instances and that uses no ports, nets or properties. Slots are those of the message schemas.
-use Rattle.std.specs.Prelude.{ℕ, zero, suc, Bool, true, false, not, ◌&&◌, ◌||◌, ◌==◌, nat_lt, List, [], ◌∷◌, Result, Ok, Err, is_ok, if◌then◌else◌}
+use Rattle.std.specs.Prelude.{ℕ, zero, suc, Bool, true, false, not, ◌&&◌, ◌||◌, ◌==◌, nat_lt, length, List, [], ◌∷◌, Result, Ok, Err, is_ok, if◌then◌else◌}
 use Rattle.ix_num.specs.declared.fault.FrameFault.{FrameFault}
 use Rattle.ix_frame.specs.Result.{◌>>=◌}
 use Rattle.ix_frame.specs.Segments.{Segments}
 use Rattle.ix_frame.specs.Target.{Object, Elements}
-use Rattle.ix_frame.specs.Objects.{u32_in, has_pointer, has_root, root_of, whole_budget, struct_at, elements_at, list_at, text_at, text_in, element_of}
+use Rattle.ix_frame.specs.Objects.{u32_in, has_pointer, has_root, root_of, whole_budget, struct_at, elements_at, list_at, text_at, text_in, element_of, numbers_in}
 
 -- the root pointer is there and zero, so that all of the message is its default
 unfoldable pub is_zero_root : Segments → Bool
@@ -67,7 +67,7 @@ abbrev pub has_no_instances : Object → ℕ → Bool
 has_no_instances cell budget = none_in (list_at 4 cell 0 budget)
   where
     none_in : Result (Elements × ℕ) FrameFault → Bool
-    none_in (Ok numbers) = numbers.0.count == 0
+    none_in (Ok numbers) = length (numbers_in numbers.0) == 0
     none_in (Err fault) = false
 
 -- There is at most one cell. It is of the top instance's declaration, and has neither instances nor nets.

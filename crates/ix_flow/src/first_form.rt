@@ -26,7 +26,9 @@ fn read_texts(texts: &Texts<'_>, budget: &mut Budget) -> Result<(), FrameFault>
     ensures fault { IfErr result (λ fault. texts_read (text_elements texts.now).count (text_elements texts.now) budget.old ≡ Err fault) }
 {
     for i in 0..texts.len() {
-        texts.at(i, budget)?;
+        if let Err(fault) = texts.at(i, budget) {
+            return Err(fault);
+        }
     }
     Ok(())
 }
@@ -72,14 +74,76 @@ fn are_plain_instances(strings: u32, declarations: u32, instances: &List<'_>) ->
     true
 }
 
+fn is_plain_declaration(strings: u32, declaration: &Obj<'_>) -> bool
+    ensures { result ≡ is_plain_declaration strings (object_of declaration.now) }
+{
+    declaration.u32_at(0) < strings && !declaration.has(0)
+}
+
 fn are_plain_declarations(strings: u32, declarations: &List<'_>) -> bool
     ensures { result ≡ all_of (is_plain_declaration strings) (elements_of declarations.now) }
 {
     for i in 0..declarations.len() {
-        let declaration = declarations.at(i);
-        if declaration.u32_at(0) >= strings || declaration.has(0) {
+        if !is_plain_declaration(strings, &declarations.at(i)) {
             return false;
         }
     }
     true
+}
+
+fn has_no_instances(cell: &Obj<'_>, budget: &mut Budget) -> bool
+    ensures { result ≡ has_no_instances (object_of cell.now) budget.old }
+{
+    match cell.numbers(0, budget) {
+        Ok(numbers) => numbers.len() == 0,
+        Err(_) => false,
+    }
+}
+
+fn is_empty_top(parts: &Parts<'_>, budget: &mut Budget) -> bool
+    ensures { result ≡ is_empty_top (view_of parts.now) budget.old }
+{
+    if parts.cells.len() == 0 {
+        return true;
+    }
+    if parts.cells.len() != 1 {
+        return false;
+    }
+    let cell = parts.cells.at(0);
+    cell.u32_at(0) == parts.top.u32_at(1) && !cell.has(1) && has_no_instances(&cell, budget)
+}
+
+#[tactic(auto, unfolding(crate::specs::FirstForm::are_plain))]
+fn are_plain(parts: &Parts<'_>, budget: &mut Budget) -> bool
+    ensures { result ≡ are_plain (view_of parts.now) budget.old }
+{
+    let strings = parts.strings.len();
+    let declarations = parts.declarations.len();
+    !parts.root.has(1)
+        && !parts.root.has(5)
+        && is_plain_instance(strings, declarations, &parts.top)
+        && are_plain_declarations(strings, &parts.declarations)
+        && are_plain_instances(strings, declarations, &parts.instances)
+        && is_empty_top(parts, budget)
+}
+
+/// Whether the message has a root pointer that is zero, so that all of it is its default.
+#[tactic(auto, unfolding(crate::specs::FirstForm::is_zero_root))]
+pub(crate) fn is_zero_root(frame: &Frame<'_>) -> bool
+    ensures { result ≡ is_zero_root (segments_of frame.now) }
+{
+    let mut budget = Budget::new(frame);
+    frame.root(&mut budget).is_ok() && !frame.has_root()
+}
+
+/// Whether the message is a logical netlist that can be read, with no ports, nets, properties, or instances of its top.
+#[tactic(auto, unfolding(crate::specs::FirstForm::is_empty_design))]
+pub(crate) fn is_empty_design(frame: &Frame<'_>) -> bool
+    ensures { result ≡ is_empty_design (segments_of frame.now) }
+{
+    let mut budget = Budget::new(frame);
+    match read_parts(frame, &mut budget) {
+        Ok(parts) => are_plain(&parts, &mut budget),
+        Err(_) => false,
+    }
 }

@@ -1,4 +1,13 @@
 //! The program over any shelf and sink.
 #![tactic(auto)]
 
+mod answer;
 mod first_form;
+mod inputs;
+mod job;
+mod run;
+mod status;
+mod words;
+
+pub use answer::Answer;
+pub use status::Status;

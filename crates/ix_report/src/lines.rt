@@ -9,6 +9,9 @@ use ix_num::Memory;
 use ix_rec::{File, Place, Rule};
 use std::alloc::{AllocError, Global};
 
+/// The line of `Report::Usage`.
+pub const USAGE_LINE: &[u8] = b"bad words\n";
+
 /// The line of `Report::OutOfMemory`, which takes no memory to make.
 pub const OUT_OF_MEMORY_LINE: &[u8] = b"out of memory\n";
 

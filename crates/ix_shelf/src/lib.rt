@@ -16,7 +16,7 @@ mod shelf;
 mod sink;
 
 pub use disk_shelf::DiskShelf;
-pub use files::{FileFault, read_file, write_file};
+pub use files::{FileFault, MOST_BYTES, read_file, write_file};
 pub use mem_shelf::MemShelf;
 pub use mem_sink::MemSink;
 pub use out_sink::OutSink;

@@ -1,0 +1,116 @@
+-- What a run of the program does to the outside, and what its status says.
+use Rattle.std.specs.Prelude.{◌≡◌, ◌≢◌, ◌≤◌, ◌⊎◌, ℕ, List, [], Option, Some, None, Ok}
+use Rattle.ix_shelf.specs.Shelf.{Files, with_file, Rose, IsAbsent, LeavesPrefix}
+use Rattle.ix_shelf.specs.Sink.{with_bytes, PutsPrefix}
+use Rattle.ix_report.specs.Lines.{line_of}
+use Rattle.ix_report.specs.declared.report.Report as reports
+use Rattle.ix_report.specs.declared.report.Report.TheVariants as told
+use Rattle.ix_frame.specs.Segments.{Segments, segments}
+use Rattle.ix_frame.specs.Target.{Object}
+use Rattle.ix_frame.specs.Objects.{no_elements, root_of, whole_budget, text_at, list_at, elements_at}
+use Rattle.ix_flow.specs.declared.answer.Answer.{Answer}
+use Rattle.ix_flow.specs.declared.answer.Answer.TheVariants.{Broken, Unbuilt, Written}
+use Rattle.ix_flow.specs.declared.status.Status.{Status}
+use Rattle.ix_flow.specs.declared.status.Status.TheVariants as stat
+use Rattle.ix_flow.specs.Words.{Flow}
+use Rattle.ix_flow.specs.Answer.{answer}
+use Rattle.ix_flow.specs.Status.{status_of}
+
+-- a shelf and a sink at one moment: what they tell, and how often they have failed
+pub record Outside : Type 0 where
+  pub files : Option Files
+  pub read_faults : ℕ
+  pub write_faults : ℕ
+  pub told : Option (List ℕ)
+  pub put_faults : ℕ
+
+abbrev pub outside : {S O : Type 0} → (S → Option Files) → (S → ℕ) → (S → ℕ) → (O → Option (List ℕ)) → (O → ℕ) → S → O → Outside
+outside files read_faults write_faults told put_faults shelf out =
+    record { files = files shelf; read_faults = read_faults shelf; write_faults = write_faults shelf; told = told out; put_faults = put_faults out }
+
+-- no count falls
+pub record KeepsCounts (before after : Outside) : Type 0 where
+  pub read : before.read_faults ≤ after.read_faults
+  pub write : before.write_faults ≤ after.write_faults
+  pub put : before.put_faults ≤ after.put_faults
+
+-- The line was put and nothing else; only where the sink's count rose, a prefix of it.
+abbrev pub Prints : List ℕ → (before after : Outside) → Type 0
+Prints line before after =
+    (after.told ≡ with_bytes line before.told)
+    ⊎ (Rose before.put_faults after.put_faults × PutsPrefix line before.told after.told)
+
+-- The status is that of the report. One of a job that is done becomes `PutFault` where its line wasn't wholly put.
+abbrev pub IsStatusOf : reports.Report → (before after : Outside) → Status → Type 0
+IsStatusOf report before after stat.PutFault =
+    (status_of report ≡ stat.Done) × Rose before.put_faults after.put_faults × PutsPrefix (line_of report) before.told after.told
+IsStatusOf report before after status = (status ≡ status_of report) × Prints (line_of report) before after
+
+-- A fault at a file has a cause outside.
+abbrev pub HasCause : reports.Report → (before after : Outside) → Type 0
+HasCause (told.ReadFault file) before after = Rose before.read_faults after.read_faults ⊎ IsAbsent before.files file
+HasCause (told.WriteFault file) before after = Rose before.write_faults after.write_faults
+HasCause report before after = Unit {0}
+
+-- Both files are there, and this is the answer to their bytes.
+pub record Answers (files : Files) (flow : Flow) (is : Answer) : Type 0 where
+  pub device : List ℕ
+  pub design : List ℕ
+  pub has_device : files flow.device ≡ Some device
+  pub has_design : files flow.design ≡ Some design
+  pub answered : answer device design ≡ is
+
+-- The bytes are a frame whose root is a physical netlist with an empty name and no strings, placements, nets, site
+-- instances or properties (slots 0 to 5 of its root).
+pub record IsEmptyNetlist (bytes : List ℕ) : Type 0 where
+  pub all : Segments
+  pub root : Object
+  pub left : ℕ
+  pub opens : segments bytes ≡ Ok all
+  pub reads : root_of all (whole_budget all) ≡ Ok (root, left)
+  pub name : text_at root 0 left ≡ Ok ([], left)
+  pub strings : list_at 6 root 1 left ≡ Ok (no_elements all, left)
+  pub placements : elements_at root 2 left ≡ Ok (no_elements all, left)
+  pub nets : elements_at root 3 left ≡ Ok (no_elements all, left)
+  pub site_instances : elements_at root 4 left ≡ Ok (no_elements all, left)
+  pub properties : elements_at root 5 left ≡ Ok (no_elements all, left)
+
+-- The named file holds the netlist that is the answer, and no other file has changed.
+pub record IsImplemented (report : reports.Report) (flow : Flow) (files : Files) (after : Option Files) : Type 0 where
+  pub bytes : List ℕ
+  pub answers : Answers files flow (Written bytes report)
+  pub decodes : IsEmptyNetlist bytes
+  pub written : after ≡ Some (with_file flow.routed bytes files)
+
+-- What a report says of a shelf that tells its files.
+abbrev pub Tells : reports.Report → Flow → Files → (after : Option Files) → Type 0
+Tells (told.Implemented cells clusters nets pips trial rounds) flow files after = IsImplemented (told.Implemented cells clusters nets pips trial rounds) flow files after
+Tells told.Usage flow files after = ⊥
+Tells (told.Bad file rule place) flow files after = Answers files flow (Broken file rule place) × (after ≡ Some files)
+Tells (told.NotBuilt file) flow files after = Answers files flow (Unbuilt file) × (after ≡ Some files)
+Tells (told.ReadFault file) flow files after = ((file ≡ flow.device) ⊎ (file ≡ flow.design)) × (after ≡ Some files)
+Tells (told.WriteFault file) flow files after =
+    (file ≡ flow.routed) × (bytes : List ℕ) × (report : reports.Report) × Answers files flow (Written bytes report) × LeavesPrefix flow.routed bytes (Some files) after
+Tells told.OutOfMemory flow files after = after ≡ Some files
+
+-- A run of `flow` on these files, which ends with this status.
+pub record IsFlowRun (flow : Flow) (before after : Outside) (status : Status) : Type 0 where
+  -- what the printed line tells
+  pub report : reports.Report
+  pub is_status : IsStatusOf report before after status
+  pub taken : report ≢ told.Usage
+  pub cause : HasCause report before after
+  pub tells : (files : Files) → before.files ≡ Some files → Tells report flow files after.files
+  pub counts : KeepsCounts before after
+
+-- A run that refuses its words touches no file.
+pub record IsRefusal (before after : Outside) (status : Status) : Type 0 where
+  pub usage : status ≡ stat.Usage
+  pub line : Prints (line_of told.Usage) before after
+  pub files : after.files ≡ before.files
+  pub counts : KeepsCounts before after
+
+-- A run for words, by what they are read as.
+abbrev pub IsRun : Option Flow → (before after : Outside) → Status → Type 0
+IsRun None before after status = IsRefusal before after status
+IsRun (Some flow) before after status = IsFlowRun flow before after status

@@ -1,0 +1,27 @@
+-- The statuses of the program.
+use Rattle.std.specs.Prelude.{ℕ}
+use Rattle.ix_report.specs.declared.report.Report as reports
+use Rattle.ix_report.specs.declared.report.Report.TheVariants as told
+use Rattle.ix_flow.specs.declared.status.Status.{Status}
+use Rattle.ix_flow.specs.declared.status.Status.TheVariants.{Done, Usage, Bad, NotBuilt, ReadFault, WriteFault, PutFault, OutOfMemory}
+
+-- the exit status of the process
+abbrev pub code_of : Status → ℕ
+code_of Done = 0
+code_of Usage = 2
+code_of (Bad file rule place) = 3
+code_of (ReadFault file) = 7
+code_of (WriteFault file) = 7
+code_of PutFault = 7
+code_of OutOfMemory = 8
+code_of (NotBuilt file) = 9
+
+-- the status whose line a report is
+abbrev pub status_of : reports.Report → Status
+status_of (told.Implemented cells clusters nets pips trial rounds) = Done
+status_of told.Usage = Usage
+status_of (told.Bad file rule place) = Bad file rule place
+status_of (told.NotBuilt file) = NotBuilt file
+status_of (told.ReadFault file) = ReadFault file
+status_of (told.WriteFault file) = WriteFault file
+status_of told.OutOfMemory = OutOfMemory

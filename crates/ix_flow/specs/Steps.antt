@@ -1,0 +1,65 @@
+-- What the steps of a run come to.
+use Rattle.std.specs.Prelude.{◌≡◌, ◌≢◌, ◌≤◌, ◌⊎◌, ◌^◌, ◌<◌, ℕ, List, length, Option, Some, None}
+use Rattle.ix_shelf.specs.Shelf.{Files, Rose, IsAbsent}
+use Rattle.ix_report.specs.declared.report.Report as reports
+use Rattle.ix_report.specs.declared.report.Report.TheVariants as told
+use Rattle.ix_flow.specs.declared.answer.Answer.{Answer}
+use Rattle.ix_flow.specs.declared.answer.Answer.TheVariants.{Broken, Unbuilt, Written}
+use Rattle.ix_flow.specs.declared.answer.Content.{Content}
+use Rattle.ix_flow.specs.declared.answer.Content.TheVariants.{Bytes, TooLong}
+use Rattle.ix_flow.specs.declared.job.Job.{Job}
+use Rattle.ix_flow.specs.declared.job.Prepared.{Prepared}
+use Rattle.ix_flow.specs.declared.job.Prepared.TheVariants.{Refused, Ready}
+use Rattle.ix_flow.specs.Words.{Flow}
+use Rattle.ix_flow.specs.Answer.{empty_netlist, nothing_implemented}
+use Rattle.ix_flow.specs.Run.{Answers}
+
+-- This content was read of the file, where the shelf tells its files.
+abbrev pub IsContent : Option Files → List ℕ → Content → Type 0
+IsContent None name content = Unit {0}
+IsContent (Some files) name (Bytes bytes) = (files name ≡ Some bytes) × (length bytes ≤ 2 ^ 30)
+IsContent (Some files) name TooLong = (bytes : List ℕ) × (files name ≡ Some bytes) × (2 ^ 30 < length bytes)
+
+-- A job is ready for this answer, and for a fault at the file that it writes.
+pub record IsReady (flow : Flow) (a : Answer) (job : Job) : Type 0 where
+  pub answered : a ≡ Written job.bytes job.done.report
+  pub bytes : job.bytes ≡ empty_netlist
+  pub report : job.done.report ≡ nothing_implemented
+  pub fault : job.fault.report ≡ told.WriteFault flow.routed
+
+-- the report refuses by this answer
+abbrev pub Refuses : reports.Report → Answer → Type 0
+Refuses (told.Bad file rule place) a = a ≡ Broken file rule place
+Refuses (told.NotBuilt file) a = a ≡ Unbuilt file
+Refuses report a = ⊥
+
+-- what has to be done after the inputs were judged
+abbrev pub IsJudged : Flow → Answer → Prepared → Type 0
+IsJudged flow a (Refused t) = Refuses t.report a
+IsJudged flow a (Ready job) = IsReady flow a job
+
+-- What a refusal says of files that the shelf tells, none of which has been touched.
+abbrev pub TellsRefusal : reports.Report → Flow → Files → Type 0
+TellsRefusal (told.Bad file rule place) flow files = Answers files flow (Broken file rule place)
+TellsRefusal (told.NotBuilt file) flow files = Answers files flow (Unbuilt file)
+TellsRefusal (told.ReadFault file) flow files = (file ≡ flow.device) ⊎ (file ≡ flow.design)
+TellsRefusal report flow files = ⊥
+
+-- A refusal has its cause outside, or in the files.
+abbrev pub IsCaused : reports.Report → Option Files → (before now : ℕ) → Type 0
+IsCaused (told.ReadFault file) files before now = Rose before now ⊎ IsAbsent files file
+IsCaused told.Usage files before now = ⊥
+IsCaused (told.WriteFault file) files before now = ⊥
+IsCaused (told.Implemented cells clusters nets pips trial rounds) files before now = ⊥
+IsCaused report files before now = Unit {0}
+
+-- what has to be done after the inputs were read and judged, by the files and the count of read faults before and now
+abbrev pub IsPrepared : Flow → Option Files → (before now : ℕ) → Prepared → Type 0
+IsPrepared flow files before now (Refused t) =
+    IsCaused t.report files before now × ((told : Files) → files ≡ Some told → TellsRefusal t.report flow told)
+IsPrepared flow files before now (Ready job) = (a : Answer) × IsReady flow a job × ((told : Files) → files ≡ Some told → Answers told flow a)
+
+-- a fault at reading this file
+abbrev pub IsReadFault : List ℕ → Prepared → Type 0
+IsReadFault name (Refused t) = t.report ≡ told.ReadFault name
+IsReadFault name (Ready job) = ⊥

@@ -1,0 +1,65 @@
+//! How a run ends.
+
+ghost use Rattle.std.specs.Prelude.{◌≡◌};
+ghost use Rattle.ix_flow.specs.Status.{code_of, status_of};
+
+use ix_rec::{File, Place, Rule, Word};
+use ix_report::Report;
+
+/// The status of a run.
+#[derive(Debug, Drop)]
+pub enum Status {
+    /// The job is done.
+    Done,
+    /// The words of the command line are refused.
+    Usage,
+    /// The first rule that a file breaks, and its first place, earlier files being valid.
+    Bad(File, Rule, Place),
+    /// The file is valid so far, and has parts that the program can't handle yet.
+    NotBuilt(File),
+    /// An input could not be read: a read of the shelf failed, or the file isn't there.
+    ReadFault {
+        /// The file's name.
+        file: Word,
+    },
+    /// The output could not be written.
+    WriteFault {
+        /// The file's name.
+        file: Word,
+    },
+    /// The job is done, and its line could not be printed whole.
+    PutFault,
+    /// Out of memory.
+    OutOfMemory,
+}
+
+impl Status {
+    /// The exit status of the process: 0, 2, 3, 7, 8 or 9.
+    pub fn code(&self) -> u8
+        ensures { result ≡ code_of self.now }
+    {
+        match self {
+            Status::Done => 0,
+            Status::Usage => 2,
+            Status::Bad(_, _, _) => 3,
+            Status::ReadFault { .. } | Status::WriteFault { .. } | Status::PutFault => 7,
+            Status::OutOfMemory => 8,
+            Status::NotBuilt(_) => 9,
+        }
+    }
+}
+
+/// The status whose line a report is.
+pub(crate) fn status_of(report: Report) -> Status
+    ensures { result ≡ status_of report }
+{
+    match report {
+        Report::Implemented { .. } => Status::Done,
+        Report::Usage => Status::Usage,
+        Report::Bad { file, rule, place } => Status::Bad(file, rule, place),
+        Report::NotBuilt(file) => Status::NotBuilt(file),
+        Report::ReadFault { file } => Status::ReadFault { file },
+        Report::WriteFault { file } => Status::WriteFault { file },
+        Report::OutOfMemory => Status::OutOfMemory,
+    }
+}

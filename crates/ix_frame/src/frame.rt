@@ -41,7 +41,7 @@ impl Budget {
     }
 
     /// What is left.
-    pub fn left(&self) -> u64
+    pub(crate) fn left(&self) -> u64
         ensures { result ≡ self.now }
     {
         self.0

@@ -13,7 +13,7 @@ use byteorder::{ByteOrder, LittleEndian};
 use ix_num::FrameFault;
 
 /// A struct of a message: its place, and how many words its data and its pointers take (Cap'n Proto encoding
-/// specification, "Structs" and "Pointers"). A `Copy` value over the file's bytes.
+/// specification, "Structs" and "Default Values"). A `Copy` value over the file's bytes.
 ///
 /// A field is read by its slot, counted from 0 within its section: data in slots of 32 bits, pointers in slots of
 /// a word. A field past its section has its default, so that a struct written by an older or a newer schema is read

@@ -21,3 +21,8 @@ Gives view (Err e) before now given = (given ≡ Err e) × (now ≡ before)
 abbrev pub Finds : {X Y E : Type 0} → (X → Y) → Result X E → Result Y E → Type 0
 Finds view (Ok x) given = given ≡ Ok (view x)
 Finds view (Err e) given = given ≡ Err e
+
+-- The same of a reader of several fields, which a fault leaves with what the fields before it cost.
+abbrev pub Reads : {X Y E Z : Type 0} → (X → Y) → Result X E → (now : Z) → Result (Y × Z) E → Type 0
+Reads view (Ok x) now given = given ≡ Ok (view x, now)
+Reads view (Err e) now given = given ≡ Err e

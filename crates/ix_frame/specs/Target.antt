@@ -1,6 +1,6 @@
 -- What a pointer leads to: Cap'n Proto encoding specification, "Structs", "Lists", "Inter-Segment Pointers".
 -- Each check is one of this project's frame rules, in the order in which they are asked.
-use Rattle.std.specs.Prelude.{ℕ, ◌+◌, ◌-◌, ◌*◌, ◌/◌, ◌%◌, ◌^◌, Bool, ◌&&◌, nat_lt, nat_le, ◌==◌, Option, Some, None, Result, Ok, Err, if◌then◌else◌}
+use Rattle.std.specs.Prelude.{ℕ, ◌+◌, ◌-◌, ◌*◌, ◌/◌, ◌%◌, ◌^◌, Bool, nat_lt, nat_le, ◌==◌, Option, Some, None, Result, Ok, Err, if◌then◌else◌}
 use Rattle.ix_num.specs.declared.fault.FrameRule.{FrameRule}
 use Rattle.ix_num.specs.declared.fault.FrameRule.TheVariants.{F3, F4, F5, F8}
 use Rattle.ix_frame.specs.Result.{◌>>=◌, unless}

@@ -13,7 +13,7 @@ use std::marker::Model;
 
 /// What reading a message may still cost, in words. Each pointer that is followed is charged for the
 /// object behind it, so that no message, however its pointers share objects or lead back, is read for
-/// longer than its size allows.
+/// longer than its size allows (Cap'n Proto encoding specification, "Security Considerations": amplification).
 #[derive(Drop)]
 pub struct Budget(u64);
 
@@ -41,7 +41,7 @@ impl Budget {
     }
 
     /// What is left.
-    pub fn left(&self) -> u64
+    pub(crate) fn left(&self) -> u64
         ensures { result ≡ self.now }
     {
         self.0
@@ -56,13 +56,15 @@ impl Budget {
 }
 
 /// A file that holds a Cap'n Proto message, opened: its table of segments was read, and the segments fill the
-/// rest of the file. A `Copy` value over the file's bytes.
+/// rest of the file (Cap'n Proto encoding specification, "Serialization Over a Stream"). A `Copy` value over the
+/// file's bytes.
 #[derive(Clone, Copy)]
 pub struct Frame<'a> {
     pub(crate) bytes: &'a [u8],
     ghost whole: { IsFrame bytes.now },
 }
 
+/// The fault of this rule at word 0 of segment 0.
 fn in_file(rule: FrameRule) -> FrameFault
     ensures rule { result.rule ≡ rule }
     ensures segment { result.segment ≡ 0 }
@@ -121,7 +123,8 @@ impl<'a> Frame<'a> {
     }
 
     /// The struct that the root pointer leads to, which is word 0 of segment 0; a struct without words where it is zero.
-    /// F5, F4, F3 (also where segment 0 has no word) or F7, at word 0 of segment 0, after which the budget is as before.
+    /// Its words, at least 1, are taken from the budget, and nothing for the default. Else the first of F5, F4, F3
+    /// (also where segment 0 has no word) and F7, at word 0 of segment 0, and the budget is as before.
     #[tactic(auto, unfolding(crate::specs::Objects::root_of))]
     pub fn root(&self, budget: &mut Budget) -> Result<Obj<'a>, FrameFault>
         ensures { Gives object_of result budget.old budget.new (root_of (segments_of self.now) budget.old) }

@@ -12,8 +12,8 @@ use crate::table::behind;
 use byteorder::{ByteOrder, LittleEndian};
 use ix_num::FrameFault;
 
-/// A struct of a message: its place, and how many words its data and its pointers take. A `Copy` value over the
-/// file's bytes.
+/// A struct of a message: its place, and how many words its data and its pointers take (Cap'n Proto encoding
+/// specification, "Structs" and "Default Values"). A `Copy` value over the file's bytes.
 ///
 /// A field is read by its slot, counted from 0 within its section: data in slots of 32 bits, pointers in slots of
 /// a word. A field past its section has its default, so that a struct written by an older or a newer schema is read
@@ -75,7 +75,8 @@ impl<'a> Obj<'a> {
     }
 
     /// The struct behind this pointer, and one without words where the pointer is zero or past the pointer section.
-    /// F5, F4, F3 or F7, at the pointer's own word, after which the budget is as before.
+    /// Its words, at least 1, are taken from the budget, and nothing for the default. Else the first of F5, F4, F3
+    /// and F7, at the pointer's own word, and the budget is as before.
     #[tactic(auto, unfolding(crate::specs::Objects::struct_at))]
     pub fn obj(&self, slot: u32, budget: &mut Budget) -> Result<Obj<'a>, FrameFault>
         ensures { Gives object_of result budget.old budget.new (struct_at (object_of self.now) slot budget.old) }
@@ -90,8 +91,10 @@ impl<'a> Obj<'a> {
             Ok(no_struct(&self.segment))
         }
     }
-    /// The text behind this pointer, which is a slice of the file; empty where the pointer is zero or past the
-    /// pointer section. F5, F4, F3, F7 or F6, at the pointer's own word, after which the budget is as before.
+    /// The text behind this pointer, without the NUL that ends it: a slice of the file, empty where the pointer is zero
+    /// or past the pointer section (Cap'n Proto encoding specification, "Blobs"). The words of its bytes, rounded up,
+    /// at least 1, are taken from the budget, and nothing for the default. Else the first of F5, F4, F3, F7 and F6, at
+    /// the pointer's own word, and the budget is as before.
     #[tactic(auto, unfolding(crate::specs::Objects::text_at))]
     pub fn text(&self, slot: u32, budget: &mut Budget) -> Result<&'a str, FrameFault>
         ensures { Gives (λ text. text.now) result budget.old budget.new (text_at (object_of self.now) slot budget.old) }
@@ -107,8 +110,10 @@ impl<'a> Obj<'a> {
         }
     }
 
-    /// The list of structs behind this pointer; empty where the pointer is zero or past the pointer section.
-    /// F5, F4, F3, F8 or F7, at the pointer's own word, after which the budget is as before.
+    /// The list of structs behind this pointer, a composite list; empty where the pointer is zero or past the pointer
+    /// section. Taken from the budget are 1 for its tag, its words, and its count where its elements have no word;
+    /// nothing for the default. Else the first of F5, F4, F3, F8 and F7, at the pointer's own word, and the budget is as
+    /// before.
     #[tactic(auto, unfolding(crate::specs::Objects::elements_at))]
     pub fn list(&self, slot: u32, budget: &mut Budget) -> Result<List<'a>, FrameFault>
         ensures { Gives elements_of result budget.old budget.new (elements_at (object_of self.now) slot budget.old) }
@@ -143,7 +148,8 @@ impl<'a> Obj<'a> {
     }
 
     /// The list of numbers of 32 bits behind this pointer; empty where the pointer is zero or past the pointer section.
-    /// F5, F4, F3 or F7, at the pointer's own word, after which the budget is as before.
+    /// Its words, rounded up, at least 1, are taken from the budget, and nothing for the default. Else the first of F5,
+    /// F4, F3 and F7, at the pointer's own word, and the budget is as before.
     pub fn numbers(&self, slot: u32, budget: &mut Budget) -> Result<Numbers<'a>, FrameFault>
         ensures { Gives number_elements result budget.old budget.new (list_at 4 (object_of self.now) slot budget.old) }
     {
@@ -155,8 +161,9 @@ impl<'a> Obj<'a> {
         })
     }
 
-    /// The list of texts behind this pointer; empty where the pointer is zero or past the pointer section.
-    /// F5, F4, F3 or F7, at the pointer's own word, after which the budget is as before.
+    /// The list of texts behind this pointer; empty where the pointer is zero or past the pointer section. A word for
+    /// each text, at least 1 in all, is taken from the budget, and nothing for the default. Else the first of F5, F4, F3
+    /// and F7, at the pointer's own word, and the budget is as before.
     pub fn texts(&self, slot: u32, budget: &mut Budget) -> Result<Texts<'a>, FrameFault>
         ensures { Gives text_elements result budget.old budget.new (list_at 6 (object_of self.now) slot budget.old) }
     {

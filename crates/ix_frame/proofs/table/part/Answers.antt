@@ -1,4 +1,4 @@
-use Rattle.std.proofs.Common.{◌<◌, ap, sym, ◌∙◌, arith}
+use Rattle.std.proofs.Common.{◌<◌, arith}
 use Rattle.ix_frame.proofs.Parts.{ahead_first, ahead_next, ahead_last, head_room}
 use Rattle.ix_frame.proofs.table.part.Goals as goal
 

@@ -54,7 +54,12 @@ pub fn empty_file(alloc: Global, files: &mut FileMap, name: &str) -> Result<(), 
 
 /// Adds a piece to the end of a file, which is made where there is none. `Memory` leaves all files as before, and comes
 /// only where there is none or the piece isn't empty.
-pub fn add_to_file(alloc: Global, files: &mut FileMap, name: &str, piece: &[u8]) -> Result<(), Memory>
+pub fn add_to_file(
+    alloc: Global,
+    files: &mut FileMap,
+    name: &str,
+    piece: &[u8],
+) -> Result<(), Memory>
     ensures ok { OnOk result (files_in files.new
         ≡ with_file name.now (unwrap_or (files_in files.old name.now) [] ++ piece.now) (files_in files.old)) }
     ensures err { OnErr result (files_in files.new ≡ files_in files.old) }

@@ -2,8 +2,11 @@
 #![tactic(auto)]
 
 mod device;
+mod fault;
+mod flow;
 mod forest;
 mod items;
+mod maps;
 mod netlist;
 mod packed;
 mod phys;
@@ -18,8 +21,14 @@ pub use device::{
     SiteTypeBelEntry, SiteTypeInTileType, SiteTypeLutElements, SiteWire, Tile, TileType, Wire,
     WireConstantSources,
 };
+pub use fault::ReadFault;
+pub use flow::{
+    CellPin, Cluster, ClusterCell, ElementTable, Flat, FlatCell, FlatNet, Groups, LutChoice, Packing, Placement,
+    SitePlan, SiteSegment, SiteTree, TruthTable,
+};
 pub use forest::{Branch, Forest};
 pub use items::Items;
+pub use maps::{CellMap, PinMap};
 pub use netlist::{
     Cell, CellDeclaration, CellInstance, Entry, Net, NetlistRec, Port, PortIndexing, PortInstance,
     PortKind, PortOwner, PropertyMap, PropertyValue,

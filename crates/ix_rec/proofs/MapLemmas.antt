@@ -1,19 +1,19 @@
 -- What a tree's entries are as a finite map.
-use Rattle.std.proofs.Common.{◌≡◌, ℕ, Bool, true, false, ◌&&◌, T, List, [], ◌∷◌, length, Option, Some, cond, refl, sym, ap, subst, ◌∙◌}
+use Rattle.std.proofs.Common.{◌≡◌, ℕ, Bool, true, false, ◌&&◌, T, List, [], ◌∷◌, length, Some, cond, filter, nat_le, arith, refl, sym, ap, subst, ◌∙◌}
 use Rattle.std.specs.declared.cmp.Ordering.{Ordering}
 use Rattle.std.specs.declared.cmp.Ordering.TheVariants.{Less, Equal, Greater}
-use Rattle.std.specs.Ordering.{is_lt, nat_cmp, match_ordering}
-use Rattle.std.specs.Cmp.{IsTotalOrder, nat_cmp_total, on_total, then_total}
+use Rattle.std.specs.Ordering.{is_le, is_lt, nat_cmp, match_ordering, ordering_then}
+use Rattle.std.specs.Cmp.{IsTotalOrder}
 use Rattle.std.specs.List.{AllByRecursion}
 use Rattle.std.specs.List.Sorted.{IsStrictlySortedBy}
 use Rattle.std.specs.Map.{keys_of, lookup}
 use Rattle.std.specs.BTreeMap.{is_at, insert_entry}
+use Rattle.std.specs.BTreeMap.Range.{entries_between}
+use Rattle.std.specs.declared.ops.Bound.TheVariants.{Included, Unbounded}
+use Rattle.std.proofs.lemmas.Bool.Decides.{nat_tests}
 use Rattle.std.specs.FinMap as map
 use Rattle.std.specs.FinMap.Entries.{below_all, by_order}
 use Rattle.ix_rec.specs.Maps.{pin_order}
-
-pub pin_order_total : IsTotalOrder pin_order
-pin_order_total = then_total (on_total (λ t. t.0) nat_cmp_total) (on_total (λ t. t.1) nat_cmp_total)
 
 both : (a b : Bool) → T a → T b → T (a && b)
 both true b p q = q
@@ -37,10 +37,10 @@ module _ {K X : Type 0} (R : K → K → Ordering) where
   put-insert_entry : (k : K) (v : X) (es : List (K × X)) → map.put R k v es ≡ insert_entry R es k v
   put-insert_entry k v [] = refl
   put-insert_entry k v (e ∷ es) = elim (R k e.0) as (λ o. by_order o ((k, v) ∷ e ∷ es) ((e.0, v) ∷ es) (e ∷ map.put R k v es) ≡ match_ordering o ((k, v) ∷ e ∷ es) ((e.0, v) ∷ es) (e ∷ insert_entry R es k v)) [
-      | Less ↦ refl
-      | Equal ↦ refl
-      | Greater ↦ ap (λ rest. e ∷ rest) (put-insert_entry k v es)
-    ]
+    | Less ↦ refl
+    | Equal ↦ refl
+    | Greater ↦ ap (λ rest. e ∷ rest) (put-insert_entry k v es)
+  ]
 
   module _ (es : List (K × X)) (rising : IsStrictlySortedBy R (keys_of es)) where
     -- the map's entries are the tree's
@@ -63,3 +63,12 @@ module _ {K X : Type 0} (R : K → K → Ordering) where
   -- a tree without entries is the empty map
   pub empty-tree : (es : List (K × X)) → es ≡ [] → map.from_sorted {R = R} es ≡ map.empty
   empty-tree es e = ap (λ l. map.from_sorted {R = R} l) e ∙ map.empty_of_len _ (map.len-entries _ ∙ ap length (map.entries-from_sorted R [] tt))
+
+-- a pin comes at or after a cell's least one where its cell is at or after that cell
+is_le-pin_order : (cell a b : ℕ) → (is_le (ordering_then (nat_cmp cell a) (nat_cmp 0 b)) && true) ≡ nat_le cell a
+is_le-pin_order cell a b = grind (arith, nat_tests)
+
+-- the entries from a cell's least pin on
+pub entries_between-from_cell : {X : Type 0} (cell least : ℕ) (es : List ((ℕ × ℕ) × X)) → least ≡ 0
+    → entries_between pin_order (Included (cell, least)) Unbounded es ≡ filter (λ e. nat_le cell e.0.0) es
+entries_between-from_cell cell least es e = ap (λ n. entries_between pin_order (Included (cell, n)) Unbounded es) e ∙ (λ i. filter (λ e. is_le-pin_order cell e.0.0 e.0.1 i) es)

@@ -3,6 +3,7 @@
 
 use crate::items::Items;
 use ix_num::{BelPinId, NameId, SiteTypeId};
+use std::mem::size_of;
 
 /// What a device resources message says.
 #[derive(Drop)]
@@ -102,7 +103,7 @@ pub enum Category {
 }
 
 /// Whether a BEL can invert.
-#[derive(Clone, Copy, PartialEq, Eq)]
+#[derive(Clone, Copy)]
 pub enum Inversion {
     /// It can't.
     NonInverting,
@@ -169,6 +170,9 @@ pub struct Pip {
     /// What kind of PIP it is.
     pub kind: PipKind,
 }
+
+// A device may have millions of them.
+const _: () = prove!(size_of::<Pip>() <= 12);
 
 /// A kind of PIP.
 #[derive(Clone, Copy, PartialEq, Eq)]
@@ -294,7 +298,7 @@ pub struct PackagePin {
 }
 
 /// The site of a package pin.
-#[derive(Clone, Copy, PartialEq, Eq)]
+#[derive(Clone, Copy)]
 pub enum PackagePinSite {
     /// None.
     NoSite,

@@ -23,8 +23,8 @@ pub use device::{
 };
 pub use fault::ReadFault;
 pub use flow::{
-    CellPin, Cluster, ClusterCell, ElementTable, Flat, FlatCell, FlatNet, Groups, LutChoice, Packing, Placement,
-    SitePlan, SiteSegment, SiteTree, TruthTable,
+    CellPin, Cluster, ClusterCell, ElementTable, Flat, FlatCell, FlatNet, Groups, LutChoice,
+    Packing, Placement, SitePlan, SiteSegment, SiteTree, TruthTable,
 };
 pub use forest::{Branch, Forest};
 pub use items::Items;
@@ -38,4 +38,3 @@ pub use phys::{
     BranchKind, CellPlacement, NetType, Phys, PhysNet, PinMapping, Property, Segment, SiteInstance,
 };
 pub use place::{File, Place, Rule};
-pub use text::{Bytes, Word};

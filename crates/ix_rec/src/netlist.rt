@@ -87,7 +87,7 @@ pub enum PortIndexing {
 }
 
 /// Whose port a net joins.
-#[derive(Clone, Copy, PartialEq, Eq)]
+#[derive(Clone, Copy)]
 pub enum PortOwner {
     /// The cell's own, seen from inside.
     ExtPort,
@@ -138,7 +138,7 @@ pub struct Entry {
 }
 
 /// The value of a property.
-#[derive(Clone, Copy, PartialEq, Eq)]
+#[derive(Clone, Copy)]
 pub enum PropertyValue {
     /// A text.
     Text(NameId),

@@ -3,6 +3,7 @@
 use crate::forest::Forest;
 use crate::items::Items;
 use ix_num::NameId;
+use std::mem::size_of;
 
 /// What a physical netlist message says.
 #[derive(Drop)]
@@ -74,6 +75,8 @@ pub enum NetType {
 pub struct Segment {
     /// What kind of piece it is, which says what the three names are.
     pub kind: BranchKind,
+    /// Whether a PIP is used from `wire0` to `wire1`. At another kind it isn't looked at.
+    pub forward: bool,
     /// The name of the site, or at a PIP of the tile.
     pub first: NameId,
     /// The name of the BEL, at a site pin of the pin, at a PIP of `wire0`.
@@ -81,9 +84,10 @@ pub struct Segment {
     /// The name of the BEL pin, at a PIP of `wire1`, at a site PIP of its input pin. At a site pin it isn't
     /// looked at.
     pub third: NameId,
-    /// Whether a PIP is used from `wire0` to `wire1`. At another kind it isn't looked at.
-    pub forward: bool,
 }
+
+// A routed netlist may have millions of them.
+const _: () = prove!(size_of::<Segment>() <= 16);
 
 /// A kind of segment.
 #[derive(Clone, Copy, PartialEq, Eq)]

@@ -1,5 +1,3 @@
-use Rattle.std.proofs.Common.{sym, subst}
-use Rattle.ix_rec.specs.Forest.{IsPreorder}
 use Rattle.ix_rec.proofs.ForestLemmas.{IsPreorder-push}
 use Rattle.ix_rec.proofs.forest.Forest.push.Goals as goal
 

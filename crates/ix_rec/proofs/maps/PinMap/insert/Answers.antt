@@ -1,6 +1,5 @@
 use Rattle.std.proofs.Common.{◌∙◌, ap}
-use Rattle.ix_rec.specs.Maps.{pin_order}
-use Rattle.ix_rec.proofs.MapLemmas.{pin_order_total}
+use Rattle.ix_rec.specs.Maps.{pin_order, pin_order_total}
 use Rattle.std.specs.FinMap as map
 use Rattle.ix_rec.proofs.MapLemmas.{insert-tree}
 use Rattle.ix_rec.proofs.maps.PinMap.insert.Goals as goal

@@ -1,4 +1,4 @@
-use Rattle.std.proofs.Common.{◌≡◌, ◌∙◌, List, ℕ, Some, slice_get, map, string_bytes, sym, subst}
+use Rattle.std.proofs.Common.{◌≡◌, ◌∙◌, slice_get, map, string_bytes, sym, subst}
 use Rattle.ix_strings.specs.Names.{number_once_added, with_name, AllDiffer, KeepsNumbers, IsTable}
 use Rattle.ix_strings.proofs.TableLemmas.{names-inserted, number-inserted, slice_get-with_name, KeepsNumbers-with_name, AllDiffer-with_name, IsTable-with_name}
 use Rattle.ix_strings.proofs.names.Names.add.Goals as goal

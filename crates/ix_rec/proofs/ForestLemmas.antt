@@ -1,5 +1,5 @@
 -- What one more item makes of a preorder list.
-use Rattle.std.proofs.Common.{◌≡◌, ℕ, zero, suc, ◌+◌, ◌-◌, ◌<◌, ◌≤◌, List, [], ◌∷◌, ◌++◌, length, slice_get, Some, sym, ap, arith}
+use Rattle.std.proofs.Common.{◌≡◌, ℕ, zero, suc, ◌+◌, ◌-◌, ◌<◌, ◌≤◌, List, [], ◌∷◌, ◌++◌, length, slice_get, Some, take, subst, sym, ap, arith}
 use Rattle.std.proofs.lemmas.Option.{same_Some, none-some, slice_get_within}
 use Rattle.ix_rec.specs.declared.forest.Branch.{Branch}
 use Rattle.ix_rec.specs.Forest.{StepsWithin, limit_after, depths, IsPreorder, next_limit}
@@ -31,3 +31,14 @@ module _ {T : Type 0} where
       let at : slice_get branches (length branches - 1) ≡ Some branch = sym last in
       let within : length branches - 1 < length branches = slice_get_within branches _ branch at in
       limit_after-at 0 branches (length branches - 1) branch (omega arith) at
+
+  StepsWithin-at : (limit : ℕ) (branches : List (Branch T)) (i : ℕ) (branch : Branch T) → StepsWithin limit (depths branches)
+      → slice_get branches i ≡ Some branch → branch.depth ≤ limit_after limit (depths (take i branches))
+  StepsWithin-at limit [] i branch steps at = absurd (none-some branch at)
+  StepsWithin-at limit (b ∷ bs) zero branch steps at = subst (λ c. c.depth ≤ limit) (same_Some b branch at) steps.0
+  StepsWithin-at limit (b ∷ bs) (suc i) branch steps at = StepsWithin-at (b.depth + 1) bs i branch steps.1 at
+
+  -- each item's depth may come after the items before it
+  pub depth-next_limit : (branches : List (Branch T)) (i : ℕ) (branch : Branch T) → IsPreorder branches
+      → slice_get branches i ≡ Some branch → branch.depth ≤ next_limit (take i branches)
+  depth-next_limit branches i branch = StepsWithin-at 0 branches i branch

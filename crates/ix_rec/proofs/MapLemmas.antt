@@ -1,9 +1,9 @@
 -- What a tree's entries are as a finite map.
-use Rattle.std.proofs.Common.{◌≡◌, ℕ, Bool, true, false, ◌&&◌, T, List, [], ◌∷◌, length, Some, cond, filter, nat_le, arith, refl, sym, ap, subst, ◌∙◌}
+use Rattle.std.proofs.Common.{◌≡◌, ◌≢◌, ℕ, Bool, true, false, ◌&&◌, T, List, [], ◌∷◌, length, Some, cond, filter, nat_le, arith, refl, sym, ap, subst, ◌∙◌}
 use Rattle.std.specs.declared.cmp.Ordering.{Ordering}
 use Rattle.std.specs.declared.cmp.Ordering.TheVariants.{Less, Equal, Greater}
-use Rattle.std.specs.Ordering.{is_le, is_lt, nat_cmp, match_ordering, ordering_then}
-use Rattle.std.specs.Cmp.{IsTotalOrder}
+use Rattle.std.specs.Ordering.{is_le, is_lt, nat_cmp, match_ordering, ordering_then, is_eq, eq_by_cmp}
+use Rattle.std.specs.Cmp.{eq_by_cmp_equiv, IsTotalOrder}
 use Rattle.std.specs.List.{AllByRecursion}
 use Rattle.std.specs.List.Sorted.{IsStrictlySortedBy}
 use Rattle.std.specs.Map.{keys_of, lookup}
@@ -72,3 +72,22 @@ is_le-pin_order cell a b = grind (arith, nat_tests)
 pub entries_between-from_cell : {X : Type 0} (cell least : ℕ) (es : List ((ℕ × ℕ) × X)) → least ≡ 0
     → entries_between pin_order (Included (cell, least)) Unbounded es ≡ filter (λ e. nat_le cell e.0.0) es
 entries_between-from_cell cell least es e = ap (λ n. entries_between pin_order (Included (cell, n)) Unbounded es) e ∙ (λ i. filter (λ e. is_le-pin_order cell e.0.0 e.0.1 i) es)
+
+module _ {K : Type 0} {R : K → K → Ordering} (o : IsTotalOrder R) (same : map.IsAntisymmetric R) where
+  tied : (k : K) → eq_by_cmp R k k ≡ true
+  tied k = (eq_by_cmp_equiv o).refl k
+
+  untied : (q k : K) → q ≢ k → eq_by_cmp R q k ≡ false
+  untied q k other = by (R q k) refl
+    where
+      by : (r : Ordering) → R q k ≡ r → is_eq r ≡ false
+      by Less e = refl
+      by Equal e = absurd (other (same q k e))
+      by Greater e = refl
+
+  -- what an insertion gives at its key, and at the other keys
+  pub get-insert_same : {X : Type 0} (m : map.FinMap R X) (k : K) (v : X) → map.get (map.insert m k v) k ≡ Some v
+  get-insert_same m k v = map.get-insert o m k v k ∙ ap (λ b. cond b (Some v) (map.get m k)) (tied k)
+
+  pub get-insert_other : {X : Type 0} (m : map.FinMap R X) (k : K) (v : X) (q : K) → q ≢ k → map.get (map.insert m k v) q ≡ map.get m q
+  get-insert_other m k v q other = map.get-insert o m k v q ∙ ap (λ b. cond b (Some v) (map.get m q)) (untied q k other)

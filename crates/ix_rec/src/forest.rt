@@ -1,6 +1,6 @@
 //! Trees, as a preorder list of depths and items.
 
-ghost use Rattle.std.specs.Prelude.{◌≡◌, ◌<◌, ◌≤◌, ◌↔◌, [], ◌∷◌, ◌++◌, Some, length, slice_get, IsTrue, OnErr, OnOk};
+ghost use Rattle.std.specs.Prelude.{◌≡◌, ◌<◌, ◌≤◌, ◌↔◌, [], ◌∷◌, ◌++◌, Some, length, slice_get, take, IsTrue, OnErr, OnOk};
 ghost use Rattle.ix_rec.specs.Forest.{IsPreorder, next_limit};
 
 use crate::phys::Segment;
@@ -58,6 +58,7 @@ impl<T> Forest<T> {
     pub fn at(&self, i: usize) -> &Branch<T>
         requires { i < length self.now }
         ensures branch { slice_get self.now i ≡ Some result.now }
+        ensures steps { result.now.depth ≤ next_limit (take i self.now) }
         ensures preorder { IsPreorder self.now }
     {
         &self.branches[i]

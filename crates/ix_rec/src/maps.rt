@@ -1,6 +1,6 @@
 //! The maps of a flat design, which contracts see as finite maps.
 
-ghost use Rattle.std.specs.Prelude.{◌≡◌, OnErr, OnOk, filter, nat_le};
+ghost use Rattle.std.specs.Prelude.{◌≡◌, ◌≢◌, ◌^◌, ◌<◌, Some, ℕ, OnErr, OnOk, filter, length, nat_le};
 ghost use Rattle.std.specs.FinMap as map;
 
 use ix_num::{CellId, Memory, NameId};
@@ -49,7 +49,8 @@ impl<V> CellMap<V> {
 
     /// The cells that have a value, rising, each with it.
     pub fn iter(&self) -> Iter<'_, CellId, V>
-        ensures { result ≡ map.entries self.now }
+        ensures entries { result ≡ map.entries self.now }
+        ensures fits { length result < 2 ^ 63 }
     {
         self.values.iter()
     }
@@ -67,6 +68,8 @@ impl<V: Copy> CellMap<V> {
     /// before.
     pub fn insert(&mut self, cell: CellId, value: V) -> Result<(), Memory>
         ensures ok { OnOk result (self.new ≡ map.insert self.old cell value) }
+        ensures value { OnOk result (map.get self.new cell ≡ Some value) }
+        ensures others { (q : ℕ) → q ≢ cell → map.get self.new q ≡ map.get self.old q }
         ensures err { OnErr result (self.new ≡ self.old) }
     {
         self.values.insert(cell, value)?;
@@ -114,14 +117,16 @@ impl<V> PinMap<V> {
 
     /// The pins that have a value, by cell and at one cell by the number of their name, each with it.
     pub fn iter(&self) -> Iter<'_, (CellId, NameId), V>
-        ensures { result ≡ map.entries self.now }
+        ensures entries { result ≡ map.entries self.now }
+        ensures fits { length result < 2 ^ 63 }
     {
         self.values.iter()
     }
 
     /// The same from a cell on: first come that cell's own pins.
     pub fn from_cell(&self, cell: CellId) -> Range<'_, (CellId, NameId), V>
-        ensures { result ≡ filter (λ e. nat_le cell e.0.0) (map.entries self.now) }
+        ensures entries { result ≡ filter (λ e. nat_le cell e.0.0) (map.entries self.now) }
+        ensures fits { length result < 2 ^ 63 }
     {
         self.values.range((cell, NameId::new(0))..)
     }
@@ -139,6 +144,8 @@ impl<V: Copy> PinMap<V> {
     /// before.
     pub fn insert(&mut self, cell: CellId, pin: NameId, value: V) -> Result<(), Memory>
         ensures ok { OnOk result (self.new ≡ map.insert self.old (cell, pin) value) }
+        ensures value { OnOk result (map.get self.new (cell, pin) ≡ Some value) }
+        ensures others { (q : ℕ × ℕ) → q ≢ (cell, pin) → map.get self.new q ≡ map.get self.old q }
         ensures err { OnErr result (self.new ≡ self.old) }
     {
         self.values.insert((cell, pin), value)?;

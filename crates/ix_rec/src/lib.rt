@@ -38,3 +38,4 @@ pub use phys::{
     BranchKind, CellPlacement, NetType, Phys, PhysNet, PinMapping, Property, Segment, SiteInstance,
 };
 pub use place::{File, Place, Rule};
+pub use text::{Bytes, Word};

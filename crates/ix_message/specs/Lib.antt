@@ -1,0 +1,4 @@
+pub mod Shape
+pub mod Reading
+pub mod Trial
+pub mod Scratch

@@ -1,0 +1,5 @@
+//! Messages.
+#![tactic(auto)]
+
+mod scratch;
+mod trial;

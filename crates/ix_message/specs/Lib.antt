@@ -1,4 +1,10 @@
 pub mod Shape
 pub mod Reading
-pub mod Trial
-pub mod Scratch
+pub mod Names
+pub mod Layout
+pub mod Indexes
+pub mod Message
+pub mod Device
+pub mod Netlist
+pub mod Phys
+pub mod Packed

@@ -8,3 +8,4 @@ pub mod Device
 pub mod Netlist
 pub mod Phys
 pub mod Packed
+pub mod Worked

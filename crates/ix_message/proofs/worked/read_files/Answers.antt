@@ -1,5 +1,7 @@
 -- Each is computed.
+use lib.Utf8.{encode}
 use Rattle.std.proofs.Common.{refl}
+use Rattle.std.specs.Str.{is_utf8, chars}
 use Rattle.ix_frame.specs.Segments.{numbers_of_four, cut, segments}
 use Rattle.ix_frame.specs.Target.{through_one_word, through_two_words, target, placed, struct_target, list_target, composite_target}
 use Rattle.ix_frame.specs.Objects.{u32_in, has_pointer, struct_found, struct_behind, elements_found, elements_behind, list_found, list_behind, text_of, text_found, text_behind, struct_at, elements_at, list_at, text_at, root_of}
@@ -18,7 +20,7 @@ unfolding numbers_of_four cut segments through_one_word through_two_words target
 returns-clause-empty c = refl
 
 pub returns-clause-clusters : goal.returns-clause-clusters
-unfolding numbers_of_four cut segments through_one_word through_two_words target placed struct_target list_target composite_target u32_in has_pointer struct_found struct_behind elements_found elements_behind list_found list_behind text_of text_found text_behind struct_at elements_at list_at text_at root_of row_at each_from texts_from texts_at branches_from value_at root_at record_of steps first_unfit numbers_in_segments reading
+unfolding is_utf8 chars encode numbers_of_four cut segments through_one_word through_two_words target placed struct_target list_target composite_target u32_in has_pointer struct_found struct_behind elements_found elements_behind list_found list_behind text_of text_found text_behind struct_at elements_at list_at text_at root_of row_at each_from texts_from texts_at branches_from value_at root_at record_of steps first_unfit numbers_in_segments reading
 returns-clause-clusters c = refl
 
 pub returns-clause-points_at_itself : goal.returns-clause-points_at_itself
@@ -30,5 +32,5 @@ unfolding numbers_of_four cut segments through_one_word through_two_words target
 returns-clause-cut c = refl
 
 pub returns-clause-no_declaration : goal.returns-clause-no_declaration
-unfolding numbers_of_four cut segments through_one_word through_two_words target placed struct_target list_target composite_target u32_in has_pointer struct_found struct_behind elements_found elements_behind list_found list_behind text_of text_found text_behind struct_at elements_at list_at text_at root_of row_at each_from texts_from texts_at branches_from value_at root_at record_of steps first_unfit numbers_in_segments reading
+unfolding is_utf8 chars encode numbers_of_four cut segments through_one_word through_two_words target placed struct_target list_target composite_target u32_in has_pointer struct_found struct_behind elements_found elements_behind list_found list_behind text_of text_found text_behind struct_at elements_at list_at text_at root_of row_at each_from texts_from texts_at branches_from value_at root_at record_of steps first_unfit numbers_in_segments reading
 returns-clause-no_declaration c = refl

@@ -9,3 +9,4 @@ pub mod Netlist
 pub mod Phys
 pub mod Packed
 pub mod Worked
+pub mod Slots

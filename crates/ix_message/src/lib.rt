@@ -3,4 +3,6 @@
 //! of its names, its layout, and the law that what is encoded reads again as itself.
 #![tactic(auto)]
 
+mod laws;
+pub mod slots;
 mod worked;

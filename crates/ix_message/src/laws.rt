@@ -1,0 +1,10 @@
+//! Laws of the definitions.
+
+ghost use Rattle.std.specs.Prelude.{IsTrue};
+ghost use Rattle.ix_message.specs.Slots.{slots_agree};
+
+/// Each slot that the code uses is the one that the tables give the field.
+pub fn slots_are_those_of_the_tables()
+    ensures { IsTrue slots_agree }
+{
+}

@@ -3,6 +3,7 @@ pub mod Reading
 pub mod Names
 pub mod Layout
 pub mod Indexes
+pub mod Records
 pub mod Message
 pub mod Device
 pub mod Netlist

@@ -9,6 +9,7 @@ use Rattle.ix_message.specs.Shape.{Text, Struct, Value}
 use Rattle.ix_message.specs.Reading.{root_at}
 use Rattle.ix_message.specs.Indexes.{Item, first_bad}
 use Rattle.ix_message.specs.Names.{Datum, record_of, numbered, table_of, place_in}
+use Rattle.ix_message.specs.Records.{IsRecord}
 use Rattle.ix_message.specs.Layout.{too_many_words, struct_laid, section_of}
 
 -- Why a file isn't a message: a fault of the frame, or a number out of its list.
@@ -55,3 +56,14 @@ encoding s r = let segment = segment_for s r in
 -- the words that count where it is asked whether a message is too long
 unfoldable pub counted_words : (s : Struct) → Value Datum s → ℕ
 counted_words s r = 1 + (struct_laid (section_of (table_of s r) s (numbers_of s r))).counted
+
+-- Laws of records of any kind of message.
+
+-- A record's numbers, read by its string table, are the record.
+abbrev pub NamesAgain : Type 0
+NamesAgain = (s : Struct) (r : Value Datum s) → IsRecord (place_in (table_of s r)) s r → record_of (table_of s r) s (numbers_of s r) ≡ r
+
+-- What is encoded reads again as itself, unless a number of the record is out of its list or the message is too long.
+abbrev pub ReadsAgain : (s : Struct) → Type 0
+ReadsAgain s = (r : Value Datum s) → IsRecord (place_in (table_of s r)) s r → first_bad s (length (table_of s r)) (numbers_of s r) ≡ None
+    → counted_words s r < too_many_words → reading s (encoding s r) ≡ Ok r

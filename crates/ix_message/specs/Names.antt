@@ -114,14 +114,17 @@ unfoldable mutual
   part_uses (string_table called ps) v = part_uses ps v
   part_uses (unread called ps) v = part_uses ps v
 
+abbrev pub has_text : List Text → Text → Bool
+has_text [] t = false
+has_text (x ∷ xs) t = if same_text x t then true else has_text xs t
+
+abbrev pub with_text : List Text → Text → List Text
+with_text table t = if has_text table t then table else table ++ t ∷ []
+
 -- each text once, where it is first used
 unfoldable pub first_uses : List Text → List Text → List Text
 first_uses before [] = before
-first_uses before (t ∷ ts) = first_uses (if is_there before t then before else before ++ t ∷ []) ts
-  where
-  is_there : List Text → Text → Bool
-  is_there [] t = false
-  is_there (x ∷ xs) t = if same_text x t then true else is_there xs t
+first_uses before (t ∷ ts) = first_uses (with_text before t) ts
 
 abbrev pub table_of : (s : Struct) → Value Datum s → List Text
 table_of s r = first_uses [] (uses s r)

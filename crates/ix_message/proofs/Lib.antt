@@ -1,1 +1,5 @@
 pub mod NamesAgain
+pub mod Pointer
+pub mod Stands
+pub mod Rows
+pub mod Behind

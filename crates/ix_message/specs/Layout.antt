@@ -1,7 +1,6 @@
 -- How a message is laid out: one segment, in which after a struct the objects of its pointers follow in slot order,
 -- each with its whole content before the next, and after a list's elements the objects of each element in turn.
-use Rattle.std.specs.Prelude.{ℕ, ◌+◌, ◌-◌, ◌*◌, ◌/◌, ◌%◌, ◌^◌, List, [], ◌∷◌, ◌++◌, length, map, replicate, sum, nat_le, Option, Some, None, if◌then◌else◌}
-use Rattle.std.specs.List.{flat_map}
+use Rattle.std.specs.Prelude.{ℕ, ◌+◌, ◌-◌, ◌*◌, ◌/◌, ◌%◌, ◌^◌, List, [], ◌∷◌, ◌++◌, length, map, replicate, Bool, true, ◌&&◌, nat_lt, Option, Some, None}
 use Rattle.byteorder.specs.Endian.{little_bytes}
 use Rattle.ix_message.specs.Shape.{Text, Kind, Field, Struct, Pointers, Branches, Value, Parts, struct_of, no_more, text, texts, numbers, struct, struct_or_none, boxed, structs, branches, string_table, unread, ends, branch}
 
@@ -9,20 +8,25 @@ use Rattle.ix_message.specs.Shape.{Text, Kind, Field, Struct, Pointers, Branches
 abbrev pub padded : List ℕ → List ℕ
 padded bytes = bytes ++ replicate ((8 - length bytes % 8) % 8) 0
 
+-- numbers of four bytes each
+abbrev pub number_bytes : List ℕ → List ℕ
+number_bytes [] = []
+number_bytes (n ∷ ns) = little_bytes 4 n ++ number_bytes ns
+
 -- the words at which a message is too long
 abbrev pub too_many_words : ℕ
 too_many_words = 2 ^ 27
 
 -- An object as its pointer's word, by how many words behind the pointer's end the object begins, and as its bytes with
--- its whole content; and the words that it counts where it is asked whether a message is too long. A pointer to
--- nothing is a zero word.
+-- its whole content; and whether each text and list of structs in it fits its count. A pointer to nothing is a zero
+-- word.
 pub record Laid : Type 0 where
   pub pointer : ℕ → ℕ
   pub object : List ℕ
-  pub counted : ℕ
+  pub fits : Bool
 
 abbrev pub nothing_laid : Laid
-nothing_laid = record { pointer = λ gap. 0; object = []; counted = 0 }
+nothing_laid = record { pointer = λ gap. 0; object = []; fits = true }
 
 -- a pointer to a struct, and one to a list of this element size with this count
 abbrev pub struct_pointer : (data_words pointer_words gap : ℕ) → ℕ
@@ -38,19 +42,20 @@ pointer_section ahead [] = []
 pointer_section ahead (x ∷ xs) = little_bytes 8 (x.pointer (length xs + ahead)) ++ pointer_section (ahead + length x.object / 8) xs
 
 abbrev pub objects : List Laid → List ℕ
-objects xs = flat_map (λ x. x.object) xs
+objects [] = []
+objects (x ∷ xs) = x.object ++ objects xs
 
-abbrev pub all_counted : List Laid → ℕ
-all_counted xs = sum (map (λ x. x.counted) xs)
+abbrev pub all_fit : List Laid → Bool
+all_fit [] = true
+all_fit (x ∷ xs) = x.fits && all_fit xs
 
--- A list of a size that isn't composite: its bytes, in whole words. A text too long for a list's count counts as
--- too many words.
+-- A list of a size that isn't composite: its bytes, in whole words.
 abbrev pub text_laid : Text → Laid
 text_laid [] = nothing_laid
 text_laid (b ∷ bs) = record {
   pointer = list_pointer 2 (length (b ∷ bs) + 1);
   object = padded ((b ∷ bs) ++ 0 ∷ []);
-  counted = if nat_le (2 ^ 29 - 1) (length (b ∷ bs)) then too_many_words else length (padded ((b ∷ bs) ++ 0 ∷ [])) / 8;
+  fits = nat_lt (length (b ∷ bs)) (2 ^ 29 - 1);
 }
 
 unfoldable pub texts_laid : List Text → Laid
@@ -58,15 +63,15 @@ texts_laid [] = nothing_laid
 texts_laid (t ∷ ts) = let all = map text_laid (t ∷ ts) in record {
   pointer = list_pointer 6 (length (t ∷ ts));
   object = pointer_section 0 all ++ objects all;
-  counted = length (t ∷ ts) + all_counted all;
+  fits = all_fit all;
 }
 
 unfoldable pub numbers_laid : List ℕ → Laid
 numbers_laid [] = nothing_laid
 numbers_laid (n ∷ ns) = record {
   pointer = list_pointer 4 (length (n ∷ ns));
-  object = padded (flat_map (little_bytes 4) (n ∷ ns));
-  counted = (length (n ∷ ns) + 1) / 2;
+  object = padded (number_bytes (n ∷ ns));
+  fits = true;
 }
 
 -- A struct: its data section and the objects of its pointers.
@@ -75,7 +80,7 @@ pub record Section : Type 0 where
   pub behind : List Laid
 
 abbrev pub data_section : List ℕ → List ℕ
-data_section row = padded (flat_map (little_bytes 4) row)
+data_section row = padded (number_bytes row)
 
 abbrev pub section_bytes : ℕ → Section → List ℕ
 section_bytes ahead e = e.data_bytes ++ pointer_section ahead e.behind
@@ -88,7 +93,7 @@ abbrev pub struct_laid : Section → Laid
 struct_laid e = record {
   pointer = struct_pointer (length e.data_bytes / 8) (length e.behind);
   object = section_bytes 0 e ++ objects e.behind;
-  counted = section_words e + all_counted e.behind;
+  fits = all_fit e.behind;
 }
 
 -- Elements of this many words one after another, whose objects follow in the same order, the first this many words
@@ -98,13 +103,22 @@ element_sections words ahead [] = []
 element_sections words ahead (e ∷ es) =
     section_bytes (words * length es + ahead) e ++ element_sections words (ahead + length (objects e.behind) / 8) es
 
--- A list of structs: its tag, its elements, their objects. More elements than fit the tag count as too many words.
+-- the objects of elements, those of each in turn
+abbrev pub element_objects : List Section → List ℕ
+element_objects [] = []
+element_objects (e ∷ es) = objects e.behind ++ element_objects es
+
+abbrev pub elements_fit : List Section → Bool
+elements_fit [] = true
+elements_fit (e ∷ es) = all_fit e.behind && elements_fit es
+
+-- A list of structs: its tag, its elements, their objects.
 unfoldable pub structs_laid : List Section → Laid
 structs_laid [] = nothing_laid
 structs_laid (e ∷ es) = let n = length (e ∷ es) in record {
   pointer = list_pointer 7 (n * section_words e);
-  object = little_bytes 8 (struct_pointer (length e.data_bytes / 8) (length e.behind) n) ++ element_sections (section_words e) 0 (e ∷ es) ++ flat_map (λ x. objects x.behind) (e ∷ es);
-  counted = if nat_le (2 ^ 30) n then too_many_words else 1 + n * section_words e + sum (map (λ x. all_counted x.behind) (e ∷ es));
+  object = little_bytes 8 (struct_pointer (length e.data_bytes / 8) (length e.behind) n) ++ element_sections (section_words e) 0 (e ∷ es) ++ element_objects (e ∷ es);
+  fits = nat_lt n (2 ^ 30) && elements_fit (e ∷ es);
 }
 
 unfoldable pub branch_sections : Branches (List ℕ) → List Section

@@ -1,5 +1,5 @@
 -- Messages in files: reading, encoding, and the law between them. A message's kind is its root struct.
-use Rattle.std.specs.Prelude.{◌≡◌, ◌<◌, ℕ, ◌+◌, ◌*◌, ◌/◌, ◌^◌, List, ◌++◌, length, sum, Option, Some, None, Result, Ok, Err}
+use Rattle.std.specs.Prelude.{◌≡◌, ℕ, ◌/◌, List, ◌++◌, length, Bool, false, not, ◌||◌, nat_le, Option, Some, None, Result, Ok, Err}
 use Rattle.byteorder.specs.Endian.{little_bytes}
 use Rattle.ix_num.specs.declared.fault.FrameFault.{FrameFault}
 use Rattle.ix_frame.specs.Result.{◌>>=◌}
@@ -53,9 +53,10 @@ unfoldable pub encoding : (s : Struct) → Value Datum s → List ℕ
 encoding s r = let segment = segment_for s r in
     little_bytes 4 0 ++ little_bytes 4 (length segment / 8) ++ segment
 
--- the words that count where it is asked whether a message is too long
-unfoldable pub counted_words : (s : Struct) → Value Datum s → ℕ
-counted_words s r = 1 + (struct_laid (section_of (table_of s r) s (numbers_of s r))).counted
+-- A message of 2^27 words is too long, and so is one with a text or a list of structs that doesn't fit its count.
+unfoldable pub is_too_long : (s : Struct) → Value Datum s → Bool
+is_too_long s r =
+    nat_le too_many_words (length (segment_for s r) / 8) || not (struct_laid (section_of (table_of s r) s (numbers_of s r))).fits
 
 -- Laws of records of any kind of message.
 
@@ -66,4 +67,4 @@ NamesAgain = (s : Struct) (r : Value Datum s) → IsRecord (place_in (table_of s
 -- What is encoded reads again as itself, unless a number of the record is out of its list or the message is too long.
 abbrev pub ReadsAgain : (s : Struct) → Type 0
 ReadsAgain s = (r : Value Datum s) → IsRecord (place_in (table_of s r)) s r → first_bad s (length (table_of s r)) (numbers_of s r) ≡ None
-    → counted_words s r < too_many_words → reading s (encoding s r) ≡ Ok r
+    → is_too_long s r ≡ false → reading s (encoding s r) ≡ Ok r

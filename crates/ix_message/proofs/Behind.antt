@@ -1,13 +1,16 @@
 -- What is behind a pointer that stands in a segment.
-use Rattle.std.proofs.Common.{◌≡◌, ◌≢◌, ◌<◌, ◌≤◌, ◌+◌, ◌-◌, ◌*◌, ◌/◌, ◌%◌, ◌^◌, ℕ, zero, suc, List, [], ◌∷◌, ◌++◌, length, drop, true, false, refl, sym, ap, ◌∙◌, subst, arith, append_assoc, add-one, length-append, eqb}
-use Rattle.std.specs.Prelude.{Option, Some, None, Result, Ok, Err, Bool, max}
+use Rattle.std.proofs.Common.{◌≡◌, ◌≢◌, ◌<◌, ◌≤◌, ◌+◌, ◌-◌, ◌*◌, ◌/◌, ◌%◌, ◌^◌, ℕ, zero, suc, List, [], ◌∷◌, ◌++◌, length, drop, true, false, refl, sym, ap, ◌∙◌, subst, arith, append_assoc, add-one, length-append, eqb, ltb, eq-eqb, take, get_or}
+use Rattle.std.specs.Prelude.{Option, Some, None, Result, Ok, Err, Bool, max, slice_index}
+use Rattle.std.proofs.lemmas.List.{take_at}
+use Rattle.std.proofs.Math.Seq.{get_or-append_seam}
+use Rattle.std.specs.Str.{is_utf8}
 use Rattle.std.proofs.lemmas.Bool.{lt-ltb, le-leb, eqb-true}
 use Rattle.byteorder.specs.Endian.{little_bytes}
 use Rattle.ix_num.specs.declared.fault.FrameRule.{FrameRule}
 use Rattle.ix_frame.specs.Result.{◌>>=◌, unless}
 use Rattle.ix_frame.specs.Segments.{Segments, segment_at, word_at, has_words}
 use Rattle.ix_frame.specs.Target.{Object, Elements, Pointed, target, near, placed, offset_from, struct_target, list_target, composite_target, kind_of, offset_of, data_words_of, pointer_words_of, element_size_of, element_count_of, list_words}
-use Rattle.ix_frame.specs.Objects.{struct_found, struct_behind, elements_found, elements_behind, list_found, list_behind, charged, plain_cost, composite_cost}
+use Rattle.ix_frame.specs.Objects.{struct_found, struct_behind, elements_found, elements_behind, list_found, list_behind, text_of, text_found, text_behind, charged, plain_cost, composite_cost}
 use Rattle.ix_message.specs.Layout.{struct_pointer, list_pointer}
 use Rattle.ix_message.proofs.Pointer.{StructParts, struct_parts, ListParts, list_parts}
 use Rattle.ix_message.proofs.Stands.{Stands, word_stands, words_inside}
@@ -86,16 +89,49 @@ elements_here_again S q gap words n d p budget hd hp hg hw hn some fit inside ch
 pub list_target_here : (S : List ℕ) (size w start n words : ℕ) → kind_of w ≡ 1 → element_size_of w ≡ size → element_count_of w ≡ n → list_words size n ≡ words → 8 * (start + words) ≤ length S
     → list_target size (S ∷ []) (pointed_here w start) ≡ Ok (elements_here S start n 0 0, words)
 unfolding list_target placed
-list_target_here S size w start n words kind sized count long inside = ?
+list_target_here S size w start n words kind sized count long inside =
+    rw (kind, sized, eq-eqb size size refl, count, long, words_inside S start words inside) refl
+
+pub list_found_here : (S : List ℕ) (size w start n words budget : ℕ) → kind_of w ≡ 1 → element_size_of w ≡ size → element_count_of w ≡ n → list_words size n ≡ words → 0 < words
+    → 8 * (start + words) ≤ length S → words ≤ budget → list_found size (S ∷ []) budget (Some (pointed_here w start)) ≡ Ok (elements_here S start n 0 0, budget - words)
+unfolding list_found
+list_found_here S size w start n words budget kind sized count long some inside cheap =
+    let meant = list_target_here S size w start n words kind sized count long inside in
+    let plain : max 1 words ≡ words = omega arith in
+    let paid : charged (plain_cost words) budget ≡ Ok (budget - words) = rw plain (charged_here words budget cheap) in
+    rw (meant, paid) refl
 
 pub list_here_again : (S : List ℕ) (size q gap n words budget : ℕ) → size < 7 → gap < 2 ^ 29 → n < 2 ^ 29 → list_words size n ≡ words → 0 < words → 8 * (q + 1 + gap + words) ≤ length S → words ≤ budget
     → Stands S q (little_bytes 8 (list_pointer size n gap)) → list_behind size (S ∷ []) 0 q budget ≡ Ok (elements_here S (q + 1 + gap) n 0 0, budget - words)
-unfolding list_behind list_found
+unfolding list_behind
 list_here_again S size q gap n words budget hs hg hn long some inside cheap h =
     let parts = list_parts size n gap (omega arith) hn (omega arith) in
     let w = list_pointer size n gap in
     let found = target_here S q w gap parts.below (omega arith) (omega (arith, parts.kind)) parts.offset hg h in
-    let meant = list_target_here S size w (q + 1 + gap) n words parts.kind parts.size_is parts.count_is long inside in
-    let plain : max 1 words ≡ words = omega arith in
-    let paid : charged (plain_cost words) budget ≡ Ok (budget - words) = rw plain (charged_here words budget cheap) in
-    rw (found, meant, paid) refl
+    let meant = list_found_here S size w (q + 1 + gap) n words budget parts.kind parts.size_is parts.count_is long some inside cheap in
+    rw (found, meant) refl
+
+-- the bytes of a text and its NUL
+pub text_of_again : (t : List ℕ) → is_utf8 t ≡ true → text_of (t ++ 0 ∷ []) ≡ Ok t
+unfolding text_of
+text_of_again t utf8 =
+    let len : length (t ++ 0 ∷ []) ≡ length t + 1 = omega (arith, length-append t (0 ∷ [])) in
+    let front : length (t ++ 0 ∷ []) - 1 ≡ length t = omega (arith, len) in
+    let filled : ltb 0 (length (t ++ 0 ∷ [])) ≡ true = lt-ltb 0 (length (t ++ 0 ∷ [])) (omega (arith, len)) in
+    let taken : take (length t) (t ++ 0 ∷ []) ≡ t = take_at t (0 ∷ []) (length t) refl in
+    let last : slice_index (t ++ 0 ∷ []) (length t) ≡ 0 = get_or-append_seam t 0 [] 0 in
+    rw (filled, front, taken, last, utf8) refl
+
+pub text_here_again : (S : List ℕ) (q gap : ℕ) (t : List ℕ) (budget : ℕ) → is_utf8 t ≡ true → gap < 2 ^ 29 → length t < 2 ^ 29 - 1 → 8 * (q + 1 + gap + (length t + 8) / 8) ≤ length S → (length t + 8) / 8 ≤ budget
+    → Stands S q (little_bytes 8 (list_pointer 2 (length t + 1) gap)) → Stands S (q + 1 + gap) (t ++ 0 ∷ []) → text_behind (S ∷ []) 0 q budget ≡ Ok (t, budget - (length t + 8) / 8)
+unfolding text_behind text_found
+text_here_again S q gap t budget utf8 hg short inside cheap h here =
+    let n = length t + 1 in
+    let parts = list_parts 2 n gap (omega arith) (omega arith) (omega arith) in
+    let w = list_pointer 2 n gap in
+    let found = target_here S q w gap parts.below (omega arith) (omega (arith, parts.kind)) parts.offset hg h in
+    let long : list_words 2 n ≡ (length t + 8) / 8 = ap (λ (k : ℕ). k / 8) (omega arith) in
+    let meant = list_found_here S 2 w (q + 1 + gap) n ((length t + 8) / 8) budget parts.kind parts.size_is parts.count_is long (omega arith) inside cheap in
+    let len : length (t ++ 0 ∷ []) ≡ n = length-append t (0 ∷ []) in
+    let bytes : take n (drop (8 * (q + 1 + gap)) S) ≡ t ++ 0 ∷ [] = ap (take n) here.here ∙ take_at (t ++ 0 ∷ []) here.back n len in
+    rw (found, meant, bytes, text_of_again t utf8) refl

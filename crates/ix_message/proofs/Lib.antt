@@ -3,3 +3,4 @@ pub mod Pointer
 pub mod Stands
 pub mod Rows
 pub mod Behind
+pub mod Whole

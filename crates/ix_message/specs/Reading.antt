@@ -43,7 +43,7 @@ texts_at o slot budget = do
   texts_from l.0.count l.0 0 l.1
 
 -- n branches of a list, each with all that is below it before the next. Each branch costs something, so that a bound
--- above the budget isn't reached.
+-- above the budget at the list's own pointer isn't reached.
 unfoldable pub branches_from : ℕ → List Field → ℕ → Elements → ℕ → ℕ → Reads (Branches (List ℕ))
 branches_from bound fields zero l i budget = Ok (ends, budget)
 branches_from zero fields (suc n) l i budget = Ok (ends, budget)
@@ -103,7 +103,7 @@ unfoldable mutual
     Ok ((here.0, rest.0), rest.1)
   parts_at (branches called kind fields ps) slot o budget = do
     l ← elements_at o slot budget
-    here ← branches_from (l.1 + 1) fields l.0.count l.0 0 l.1
+    here ← branches_from (budget + 1) fields l.0.count l.0 0 l.1
     rest ← parts_at ps (slot + 1) o here.1
     Ok ((here.0, rest.0), rest.1)
   parts_at (string_table called ps) slot o budget = parts_at ps (slot + 1) o budget

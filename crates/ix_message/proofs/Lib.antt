@@ -4,3 +4,5 @@ pub mod Stands
 pub mod Rows
 pub mod Behind
 pub mod Whole
+pub mod Wide
+pub mod Again

@@ -26,11 +26,10 @@ words-append A B a b = let both = whole-append A B a b in omega (arith, length-a
 pub whole-padded : (B : List ℕ) → Whole (padded B)
 whole-padded B = whole_by (padded B) ((length B + 7) / 8) (length-padded B)
 
-pub AllWhole : List Laid → Type 0
+abbrev pub AllWhole : List Laid → Type 0
 AllWhole xs = AllByRecursion (λ x. Whole x.object) xs
 
 pub whole-objects : (xs : List Laid) → AllWhole xs → Whole (objects xs)
-unfolding AllWhole
 whole-objects [] h = whole_by [] 0 refl
 whole-objects (x ∷ xs) h = whole-append x.object (objects xs) h.0 (whole-objects xs h.1)
 

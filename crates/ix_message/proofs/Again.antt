@@ -1,8 +1,10 @@
 -- What is laid out in a segment is read again.
-use Rattle.std.proofs.Common.{◌≡◌, ◌<◌, ◌≤◌, ◌+◌, ◌-◌, ◌*◌, ◌/◌, ◌%◌, ◌^◌, ℕ, zero, suc, List, [], ◌∷◌, ◌++◌, length, map, take, drop, true, false, refl, sym, ap, ◌∙◌, subst, arith, length-append}
+use Rattle.std.proofs.Common.{◌≡◌, ◌<◌, ◌≤◌, ◌+◌, ◌-◌, ◌*◌, ◌/◌, ◌%◌, ◌^◌, ℕ, zero, suc, List, [], ◌∷◌, ◌++◌, length, map, take, drop, replicate, true, false, refl, sym, ap, ◌∙◌, subst, arith, length-append, mul_comm}
 use Rattle.std.specs.Prelude.{Option, Some, None, Result, Ok, Err}
 use Rattle.std.specs.List.{AllByRecursion}
 use Rattle.std.proofs.lemmas.Bool.{lt-ltb}
+use Rattle.std.proofs.lemmas.List.{length-map}
+use Rattle.ix_num.specs.declared.fault.FrameFault.{FrameFault}
 use Rattle.byteorder.specs.Endian.{little_bytes}
 use Rattle.ix_frame.specs.Result.{◌>>=◌}
 use Rattle.ix_frame.specs.Target.{Object, Elements}
@@ -10,11 +12,11 @@ use Rattle.ix_frame.specs.Objects.{struct_at, elements_at, list_at, text_at, str
 use Rattle.ix_message.specs.Shape.{Text, Kind, Field, Struct, Pointers, Branches, Value, Parts, struct_of, no_more, text, texts, numbers, struct, struct_or_none, boxed, structs, branches, string_table, unread, ends, branch}
 use Rattle.ix_message.specs.Reading.{Reads, row_at, each_from, texts_from, texts_at, branches_from, value_at, parts_at}
 use Rattle.ix_message.specs.Layout.{Laid, Section, padded, number_bytes, data_section, pointer_section, objects, section_bytes, section_words, element_sections, element_objects, list_pointer, struct_pointer, text_laid, texts_laid, numbers_laid, struct_laid, structs_laid, branch_sections, boxed_laid, option_laid, section_of, all_laid}
-use Rattle.ix_message.proofs.Stands.{Stands, stands_front, stands_behind}
+use Rattle.ix_message.proofs.Stands.{Stands, stands_front, stands_behind, length-padded}
 use Rattle.ix_message.proofs.Rows.{AreNumbers, struct_here, row_again}
 use Rattle.ix_message.proofs.Behind.{target_none, elements_here, elements_here_again, struct_here_again, list_here_again, text_here_again}
-use Rattle.ix_message.proofs.Whole.{words, Whole, whole-append, words-append, AllWhole, whole-objects, HasPointers, HasPointer, first_pointer, other_pointers, HasSection, HasSections, first_section, other_sections, IsWide, whole-element_objects, length-structs_laid, list_sections}
-use Rattle.ix_message.proofs.Wide.{data_slots, slots_of, struct_data, struct_slots, AreSections, IsRawText, AreRawBranches, IsRaw, AreRaw, length-row, all_map, length-all_laid, whole-text, branches_wide, section_wide, parts_whole}
+use Rattle.ix_message.proofs.Whole.{words, Whole, whole-append, words-append, AllWhole, whole-objects, HasPointers, HasPointer, first_pointer, other_pointers, HasSection, HasSections, first_section, other_sections, IsWide, length-section_bytes, whole-element_objects, length-structs_laid, whole-structs_laid, list_sections}
+use Rattle.ix_message.proofs.Wide.{data_slots, slots_of, struct_data, struct_slots, AreSections, IsRawText, AreRawBranches, IsRaw, AreRaw, length-row, all_map, length-all_laid, whole-text, whole-texts, whole-numbers, whole-struct, whole-boxed, branches_wide, section_wide, parts_whole}
 
 -- An element is read wherever its section stands, and costs the objects behind it.
 abbrev pub IsReadAgain : {A : Type 0} → (List ℕ) → (Object → ℕ → Reads A) → (d p : ℕ) → Section → A → Type 0
@@ -39,6 +41,10 @@ each_read S read section d p w P w-is again wide (x ∷ xs) h start n i at ahead
     let others = each_read S read section d p w P w-is again wide xs h.1 start n (i + 1) (at + w) (ahead + words (objects e.behind)) middle left (omega (arith, at-is, w-is)) (other_sections S d p w at ahead e (map section xs) w-is e-wide stands) refl in
     rw (first, others) refl
 
+times_more : (w n : ℕ) → 0 < w → n ≤ w * n
+times_more zero n h = absurd (omega arith)
+times_more (suc k) n h = omega arith
+
 -- A list of structs behind the pointer in a slot, which is read as its elements are.
 pub list_at_again : (S : List ℕ) (d p q gap start dw total slot budget left : ℕ) (e : Section) (es : List Section) → AreSections d p → AllByRecursion (IsWide d p) (e ∷ es)
     → length S < 2 ^ 30 → slot < total → q ≡ start + dw + slot → HasPointer S q gap (structs_laid (e ∷ es)) → budget ≡ words (structs_laid (e ∷ es)).object + left
@@ -49,5 +55,189 @@ list_at_again S d p q gap start dw total slot budget left e es sections wide sma
     let long = length-structs_laid d p e es wide in
     let w = section_words e in
     let w-is : w ≡ d + p = omega (arith, wide.0.words_is, wide.0.pointers_is) in
-    let product : n * w ≡ (d + p) * n = ? in
-    ?
+    let product : n * w ≡ (d + p) * n = ap (λ (k : ℕ). n * k) w-is ∙ mul_comm n (d + p) in
+    let more : n ≤ (d + p) * n = times_more (d + p) n sections.some in
+    let tag = little_bytes 8 (struct_pointer (words e.data_bytes) (length e.behind) n) in
+    let elements = element_sections w 0 (e ∷ es) in
+    let tagged : Stands S (q + 1 + gap) tag = stands_front S (q + 1 + gap) tag elements (stands_front S (q + 1 + gap) (tag ++ elements) (element_objects (e ∷ es)) h.object) in
+    let inner = elements_here_again S q gap (n * w) n (words e.data_bytes) (length e.behind) budget
+        (omega (arith, wide.0.words_is, sections.few_words)) (omega (arith, wide.0.pointers_is, sections.few_pointers)) (omega (arith, h.object.inside, small)) (omega (arith, product, long, h.object.inside, small))
+        (omega (arith, more, long, h.object.inside, small)) (omega (arith, wide.0.words_is, wide.0.pointers_is, sections.some)) (omega arith)
+        (omega (arith, product, long, h.object.inside)) (omega (arith, product, long, cost)) h.word tagged in
+    let spent : budget - (1 + n * w) ≡ words (element_objects (e ∷ es)) + left = omega (arith, product, long, cost) in
+    let found : ℕ → ℕ → ℕ → Reads Elements = λ a b k. Ok (elements_here S (q + 1 + gap + 1) n a b, k) in
+    let same : found (words e.data_bytes) (length e.behind) (budget - (1 + n * w)) ≡ found d p (words (element_objects (e ∷ es)) + left) =
+        λ i. found (wide.0.words_is i) (wide.0.pointers_is i) (spent i) in
+    let at_q : elements_behind (S ∷ []) 0 (start + dw + slot) budget ≡ Ok (elements_here S (q + 1 + gap + 1) n d p, words (element_objects (e ∷ es)) + left) =
+        subst (λ (k : ℕ). elements_behind (S ∷ []) 0 k budget ≡ Ok (elements_here S (q + 1 + gap + 1) n d p, words (element_objects (e ∷ es)) + left)) q-is (inner ∙ same) in
+    rw (lt-ltb slot total in_slots) at_q
+
+-- an empty list
+pub no_list_again : (S : List ℕ) (q gap start dw total slot budget : ℕ) → slot < total → q ≡ start + dw + slot → HasPointer S q gap (structs_laid [])
+    → elements_at (struct_here S start dw total) slot budget ≡ Ok (no_elements (S ∷ []), budget)
+unfolding elements_at structs_laid elements_behind elements_found
+no_list_again S q gap start dw total slot budget in_slots q-is h =
+    let none = target_none S (start + dw + slot) (subst (λ (k : ℕ). Stands S k (little_bytes 8 0)) q-is h.word) in
+    rw (lt-ltb slot total in_slots, none) refl
+
+-- A list of structs that are read again is read again.
+pub structs_again : {A : Type 0} (S : List ℕ) (read : Object → ℕ → Reads A) (section : A → Section) (d p : ℕ) (P : A → Type 0)
+    → ((x : A) → P x → IsReadAgain S read d p (section x) x) → ((x : A) → P x → IsWide d p (section x)) → ((x : A) → P x → AreSections d p)
+    → (xs : List A) → AllByRecursion P xs → (q gap start dw total slot budget left : ℕ) → length S < 2 ^ 30 → slot < total → q ≡ start + dw + slot
+    → HasPointer S q gap (structs_laid (map section xs)) → budget ≡ words (structs_laid (map section xs)).object + left
+    → (elements_at (struct_here S start dw total) slot budget >>= λ l. each_from read l.0.count l.0 0 l.1) ≡ Ok (xs, left)
+unfolding each_from structs_laid
+structs_again S read section d p P again wide sized [] h q gap start dw total slot budget left small in_slots q-is stands cost =
+    rw (no_list_again S q gap start dw total slot budget in_slots q-is stands) (ap (λ (k : ℕ). Ok ([], k)) (omega (arith, cost)))
+structs_again {A} S read section d p P again wide sized (x ∷ xs) h q gap start dw total slot budget left small in_slots q-is stands cost =
+    let all = all_map section P (IsWide d p) wide (x ∷ xs) h in
+    let e = section x in
+    let w-is : section_words e ≡ d + p = omega (arith, all.0.words_is, all.0.pointers_is) in
+    let found = list_at_again S d p q gap start dw total slot budget left e (map section xs) (sized x h.0) all small in_slots q-is stands cost in
+    let elements = list_sections S d p (q + 1 + gap) e (map section xs) all stands.object in
+    let each = each_read S read section d p (section_words e) P w-is again wide (x ∷ xs) h (q + 1 + gap + 1) (length (e ∷ map section xs)) 0 (q + 1 + gap + 1) 0 (words (element_objects (e ∷ map section xs)) + left) left (omega arith) elements refl in
+    let n = length (e ∷ map section xs) in
+    let count : length (x ∷ xs) ≡ n = sym (ap suc (length-map xs section)) in
+    let l = elements_here S (q + 1 + gap + 1) n d p in
+    let cheap : ℕ = words (element_objects (e ∷ map section xs)) + left in
+    let next : Reads Elements → Reads (List A) = λ r. r >>= λ l. each_from read l.0.count l.0 0 l.1 in
+    ap next found ∙ subst (λ (k : ℕ). each_from read k l 0 cheap ≡ Ok (x ∷ xs, left)) count each
+
+-- one step and the others after it
+then_again : {X A : Type 0} (m : Reads X) (f : X × ℕ → Reads A) (B : Type 0) (g : A × ℕ → Reads B) (y : A × ℕ) → (m >>= f) ≡ Ok y → (m >>= λ l. f l >>= g) ≡ g y
+then_again (Ok z) f B g y e = rw e refl
+then_again (Err z) f B g y e = absurd cc
+
+abbrev pub paired : {A B : Type 0} → A → Reads B → Reads (A × B)
+paired a rest = rest >>= λ y. Ok ((a, y.0), y.1)
+
+pair_again : {A B : Type 0} (head : Reads A) (rest : ℕ → Reads B) (v : A × B) (middle left : ℕ) → head ≡ Ok (v.0, middle) → rest middle ≡ Ok (v.1, left)
+    → (head >>= λ x. paired x.0 (rest x.1)) ≡ Ok (v, left)
+pair_again head rest v middle left first others = rw (first, others) refl
+
+-- ---- texts
+
+pub text_again : (S : List ℕ) (t : Text) (q gap budget left : ℕ) → IsRawText t → length S < 2 ^ 30 → HasPointer S q gap (text_laid t) → budget ≡ words (text_laid t).object + left
+    → text_behind (S ∷ []) 0 q budget ≡ Ok (t, left)
+unfolding text_behind text_found
+text_again S [] q gap budget left raw small h cost = rw (target_none S q h.word) (ap (λ (k : ℕ). Ok ([], k)) (omega (arith, cost)))
+text_again S (b ∷ bs) q gap budget left raw small h cost =
+    let t = b ∷ bs in
+    let long : length (text_laid t).object ≡ 8 * ((length t + 8) / 8) = length-padded (t ++ 0 ∷ []) ∙ ap (λ (k : ℕ). 8 * (k / 8)) (omega (arith, length-append t (0 ∷ []))) in
+    let bytes : Stands S (q + 1 + gap) (t ++ 0 ∷ []) = stands_front S (q + 1 + gap) (t ++ 0 ∷ []) (replicate ((8 - length (t ++ 0 ∷ []) % 8) % 8) 0) h.object in
+    let read = text_here_again S q gap t budget raw.utf8 (omega (arith, h.object.inside, small)) raw.short (omega (arith, long, h.object.inside)) (omega (arith, long, cost)) h.word bytes in
+    read ∙ ap (λ (k : ℕ). Ok (t, k)) (omega (arith, long, cost))
+
+pub text_at_again : (S : List ℕ) (t : Text) (q gap start dw total slot budget left : ℕ) → IsRawText t → length S < 2 ^ 30 → slot < total → q ≡ start + dw + slot
+    → HasPointer S q gap (text_laid t) → budget ≡ words (text_laid t).object + left → text_at (struct_here S start dw total) slot budget ≡ Ok (t, left)
+unfolding text_at
+text_at_again S t q gap start dw total slot budget left raw small in_slots q-is h cost =
+    rw (lt-ltb slot total in_slots) (subst (λ (k : ℕ). text_behind (S ∷ []) 0 k budget ≡ Ok (t, left)) q-is (text_again S t q gap budget left raw small h cost))
+
+-- ---- a struct
+
+pub struct_pointer_again : (S : List ℕ) (d p q gap start dw total slot budget left : ℕ) (e : Section) → AreSections d p → IsWide d p e → length S < 2 ^ 30 → slot < total → q ≡ start + dw + slot
+    → HasPointer S q gap (struct_laid e) → budget ≡ words (struct_laid e).object + left
+    → struct_at (struct_here S start dw total) slot budget ≡ Ok (struct_here S (q + 1 + gap) d p, words (objects e.behind) + left)
+unfolding struct_at
+struct_pointer_again S d p q gap start dw total slot budget left e sections wide small in_slots q-is h cost =
+    let long = length-section_bytes 0 d p e wide in
+    let behind = whole-objects e.behind wide.behind in
+    let all : length (struct_laid e).object ≡ 8 * (d + p + words (objects e.behind)) = omega (arith, long, behind.long, length-append (section_bytes 0 e) (objects e.behind)) in
+    let read = struct_here_again S q gap (words e.data_bytes) (length e.behind) budget (omega (arith, wide.words_is, sections.few_words)) (omega (arith, wide.pointers_is, sections.few_pointers))
+        (omega (arith, h.object.inside, small)) (omega (arith, wide.words_is, wide.pointers_is, sections.some)) (omega (arith, all, h.object.inside, wide.words_is, wide.pointers_is)) (omega (arith, all, cost, wide.words_is, wide.pointers_is)) h.word in
+    let spent : budget - (words e.data_bytes + length e.behind) ≡ words (objects e.behind) + left = omega (arith, all, cost, wide.words_is, wide.pointers_is) in
+    let found : ℕ → ℕ → ℕ → Reads Object = λ a b k. Ok (struct_here S (q + 1 + gap) a b, k) in
+    let same : found (words e.data_bytes) (length e.behind) (budget - (words e.data_bytes + length e.behind)) ≡ found d p (words (objects e.behind) + left) =
+        λ i. found (wide.words_is i) (wide.pointers_is i) (spent i) in
+    rw (lt-ltb slot total in_slots) (subst (λ (k : ℕ). struct_behind (S ∷ []) 0 k budget ≡ found d p (words (objects e.behind) + left)) q-is (read ∙ same))
+
+pub struct_section : (S : List ℕ) (d p at : ℕ) (e : Section) → IsWide d p e → Stands S at (struct_laid e).object → HasSection S at 0 e
+struct_section S d p at e wide h = record {
+  section = stands_front S at (section_bytes 0 e) (objects e.behind) h;
+  behind =
+      let k : at + (d + p) ≡ at + section_words e + 0 = omega (arith, wide.words_is, wide.pointers_is) in
+      subst (λ (m : ℕ). Stands S m (objects e.behind)) k (stands_behind S at (d + p) (section_bytes 0 e) (objects e.behind) (length-section_bytes 0 d p e wide) h);
+}
+
+-- ---- branches
+
+abbrev pub nodes : {A : Type 0} → Branches A → ℕ
+nodes ends = 0
+nodes (branch x below beside) = suc (nodes below + nodes beside)
+
+-- ---- values
+
+raw_sections : (s : Struct) (v : Value ℕ s) → IsRaw s v → AreSections (struct_data s) (struct_slots s)
+raw_sections (struct_of c fields ps) v h = h.0
+
+mutual
+  unfolding value_at parts_at section_of all_laid
+  pub value_again : (S : List ℕ) (table : List Text) (s : Struct) → length S < 2 ^ 30 → (v : Value ℕ s) → IsRaw s v → IsReadAgain S (value_at s) (struct_data s) (struct_slots s) (section_of table s v) v
+  value_again S table (struct_of c fields ps) small v raw at ahead budget left h cost =
+      let d = data_slots fields in
+      let p = slots_of ps in
+      let wide = section_wide table (struct_of c fields ps) v raw in
+      let row_long = length-row fields v.0 raw.1 in
+      let bytes = stands_front S at (data_section v.0) (pointer_section ahead (all_laid table ps v.1)) h.section in
+      let numbers_here = stands_front S at (number_bytes v.0) (replicate ((8 - length (number_bytes v.0) % 8) % 8) 0) bytes in
+      let start_is : drop (8 * at + 4 * 0) S ≡ number_bytes v.0 ++ numbers_here.back = ap (λ (k : ℕ). drop k S) (omega arith) ∙ numbers_here.here in
+      let row : row_at fields 0 (struct_here S at d p) ≡ v.0 = row_again fields v.0 S at d p 0 numbers_here.back raw.1 start_is (omega (arith, row_long)) in
+      let pointers : HasPointers S (at + d) ahead (all_laid table ps v.1) = record {
+        pointers = stands_behind S at d (data_section v.0) (pointer_section ahead (all_laid table ps v.1)) (wide.row.long ∙ ap (λ (k : ℕ). 8 * k) wide.words_is) h.section;
+        behind = subst (λ (k : ℕ). Stands S k (objects (all_laid table ps v.1))) (omega (arith, wide.words_is)) h.behind;
+      } in
+      let parts = parts_again S table ps small v.1 raw.2 at d p 0 (at + d) ahead budget left (omega arith) (omega arith) pointers cost in
+      rw (parts, row) refl
+
+  pub parts_again : (S : List ℕ) (table : List Text) (ps : Pointers) → length S < 2 ^ 30 → (v : Parts ℕ ps) → AreRaw ps v → (start dw total slot q ahead budget left : ℕ) → slot + slots_of ps ≡ total → q ≡ start + dw + slot
+      → HasPointers S q ahead (all_laid table ps v) → budget ≡ words (objects (all_laid table ps v)) + left → parts_at ps slot (struct_here S start dw total) budget ≡ Ok (v, left)
+  parts_again S table no_more small v raw start dw total slot q ahead budget left total-is q-is h cost = ap (λ (k : ℕ). Ok (tt, k)) (omega (arith, cost))
+  parts_again S table (text c ps) small v raw start dw total slot q ahead budget left total-is q-is h cost =
+      let x = text_laid v.0 in
+      let xs = all_laid table ps v.1 in
+      let x-whole = whole-text v.0 in
+      let sum = words-append x.object (objects xs) x-whole (whole-objects xs (parts_whole table ps v.1 raw.1)) in
+      let middle : ℕ = words (objects xs) + left in
+      let first = text_at_again S v.0 q (length xs + ahead) start dw total slot budget middle raw.0 small (omega (arith, total-is)) q-is (first_pointer S q ahead x xs h) (omega (arith, sum, cost)) in
+      let others = parts_again S table ps small v.1 raw.1 start dw total (slot + 1) (q + 1) (ahead + words x.object) middle left (omega (arith, total-is)) (omega (arith, q-is)) (other_pointers S q ahead x xs x-whole h) refl in
+      pair_again (text_at (struct_here S start dw total) slot budget) (parts_at ps (slot + 1) (struct_here S start dw total)) v middle left first others
+  parts_again S table (texts c ps) small v raw start dw total slot q ahead budget left total-is q-is h cost = ?
+  parts_again S table (numbers c target kind ps) small v raw start dw total slot q ahead budget left total-is q-is h cost = ?
+  parts_again S table (struct c s ps) small v raw start dw total slot q ahead budget left total-is q-is h cost =
+      let x = struct_laid (section_of table s v.0) in
+      let xs = all_laid table ps v.1 in
+      let x-whole = whole-struct (struct_data s) (struct_slots s) (section_of table s v.0) (section_wide table s v.0 raw.0) in
+      let sum = words-append x.object (objects xs) x-whole (whole-objects xs (parts_whole table ps v.1 raw.1)) in
+      let middle : ℕ = words (objects xs) + left in
+      let here = first_pointer S q ahead x xs h in
+      let others = parts_again S table ps small v.1 raw.1 start dw total (slot + 1) (q + 1) (ahead + words x.object) middle left (omega (arith, total-is)) (omega (arith, q-is)) (other_pointers S q ahead x xs x-whole h) refl in
+      let o = struct_here S start dw total in
+      let cheap : budget ≡ words x.object + middle = omega (arith, sum, cost) in
+      let in_slots : slot < total = omega (arith, total-is) in
+      let gap = length xs + ahead in
+      let e = section_of table s v.0 in
+      let wide = section_wide table s v.0 raw.0 in
+      let found = struct_pointer_again S (struct_data s) (struct_slots s) q gap start dw total slot budget middle e (raw_sections s v.0 raw.0) wide small in_slots q-is here cheap in
+      let first = value_again S table s small v.0 raw.0 (q + 1 + gap) 0 (words (objects e.behind) + middle) middle (struct_section S (struct_data s) (struct_slots s) (q + 1 + gap) e wide here.object) refl in
+      rw (found, first, others) refl
+  parts_again S table (struct_or_none c s ps) small v raw start dw total slot q ahead budget left total-is q-is h cost = ?
+  parts_again S table (boxed c kind inner s ps) small v raw start dw total slot q ahead budget left total-is q-is h cost = ?
+  parts_again S table (structs c target s ps) small v raw start dw total slot q ahead budget left total-is q-is h cost =
+      let x = structs_laid (map (section_of table s) v.0) in
+      let xs = all_laid table ps v.1 in
+      let x-whole = whole-structs_laid (struct_data s) (struct_slots s) (map (section_of table s) v.0) (all_map (section_of table s) (IsRaw s) (IsWide (struct_data s) (struct_slots s)) (section_wide table s) v.0 raw.0) in
+      let sum = words-append x.object (objects xs) x-whole (whole-objects xs (parts_whole table ps v.1 raw.1)) in
+      let middle : ℕ = words (objects xs) + left in
+      let here = first_pointer S q ahead x xs h in
+      let others = parts_again S table ps small v.1 raw.1 start dw total (slot + 1) (q + 1) (ahead + words x.object) middle left (omega (arith, total-is)) (omega (arith, q-is)) (other_pointers S q ahead x xs x-whole h) refl in
+      let o = struct_here S start dw total in
+      let cheap : budget ≡ words x.object + middle = omega (arith, sum, cost) in
+      let in_slots : slot < total = omega (arith, total-is) in
+      let gap = length xs + ahead in
+      let first = structs_again S (value_at s) (section_of table s) (struct_data s) (struct_slots s) (IsRaw s) (value_again S table s small) (section_wide table s) (raw_sections s) v.0 raw.0 q gap start dw total slot budget middle small in_slots q-is here cheap in
+      then_again (elements_at o slot budget) (λ l. each_from (value_at s) l.0.count l.0 0 l.1) _ (λ x. paired x.0 (parts_at ps (slot + 1) o x.1)) (v.0, middle) first ∙ rw others refl
+  parts_again S table (branches c kind fields ps) small v raw start dw total slot q ahead budget left total-is q-is h cost = ?
+  parts_again S table (string_table c ps) small v raw start dw total slot q ahead budget left total-is q-is h cost = ?
+  parts_again S table (unread c ps) small v raw start dw total slot q ahead budget left total-is q-is h cost =
+      parts_again S table ps small v raw start dw total (slot + 1) (q + 1) ahead budget left (omega (arith, total-is)) (omega (arith, q-is)) ? ?

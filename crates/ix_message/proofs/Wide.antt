@@ -31,6 +31,20 @@ struct_data (struct_of c fields ps) = data_slots fields
 abbrev pub struct_slots : Struct → ℕ
 struct_slots (struct_of c fields ps) = slots_of ps
 
+-- how many string tables are among the pointers
+abbrev pub tables : Pointers → ℕ
+tables no_more = 0
+tables (text c ps) = tables ps
+tables (texts c ps) = tables ps
+tables (numbers c target kind ps) = tables ps
+tables (struct c s ps) = tables ps
+tables (struct_or_none c s ps) = tables ps
+tables (boxed c kind inner s ps) = tables ps
+tables (structs c target s ps) = tables ps
+tables (branches c kind fields ps) = tables ps
+tables (string_table c ps) = suc (tables ps)
+tables (unread c ps) = tables ps
+
 -- sections that a pointer can tell, not both empty
 pub record AreSections (d p : ℕ) : Type 0 where
   pub some : 0 < d + p
@@ -48,7 +62,7 @@ AreRawBranches fields (branch row below beside) = AreNumbers fields row × AreRa
 -- the numbers and texts of a struct as a file can hold them
 abbrev mutual
   pub IsRaw : (s : Struct) → Value ℕ s → Type 0
-  IsRaw (struct_of c fields ps) v = AreSections (data_slots fields) (slots_of ps) × AreNumbers fields v.0 × AreRaw ps v.1
+  IsRaw (struct_of c fields ps) v = AreSections (data_slots fields) (slots_of ps) × AreNumbers fields v.0 × AreRaw ps v.1 × (tables ps ≡ 0)
 
   pub AreRaw : (ps : Pointers) → Parts ℕ ps → Type 0
   AreRaw no_more v = Unit {0}
@@ -87,14 +101,14 @@ length-all_laid table (branches c kind fields ps) v = ap suc (length-all_laid ta
 length-all_laid table (string_table c ps) v = ap suc (length-all_laid table ps v)
 length-all_laid table (unread c ps) v = ap suc (length-all_laid table ps v)
 
-nothing_whole : Whole []
+pub nothing_whole : Whole []
 nothing_whole = whole_by [] 0 refl
 
 pub whole-text : (t : Text) → Whole (text_laid t).object
 whole-text [] = nothing_whole
 whole-text (b ∷ bs) = whole-padded ((b ∷ bs) ++ 0 ∷ [])
 
-all_texts : (ts : List Text) → AllWhole (map text_laid ts)
+pub all_texts : (ts : List Text) → AllWhole (map text_laid ts)
 all_texts [] = tt
 all_texts (t ∷ ts) = (whole-text t, all_texts ts)
 

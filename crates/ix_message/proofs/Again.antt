@@ -1,25 +1,27 @@
 -- What is laid out in a segment is read again.
-use Rattle.std.proofs.Common.{◌≡◌, ◌<◌, ◌≤◌, ◌+◌, ◌-◌, ◌*◌, ◌/◌, ◌%◌, ◌^◌, ℕ, zero, suc, List, [], ◌∷◌, ◌++◌, length, map, take, drop, replicate, true, false, refl, sym, ap, ◌∙◌, subst, arith, length-append, mul_comm, append_assoc}
-use Rattle.std.specs.Prelude.{Option, Some, None, Result, Ok, Err}
+use Rattle.std.proofs.Common.{◌≡◌, ◌<◌, ◌≤◌, ◌+◌, ◌-◌, ◌*◌, ◌/◌, ◌%◌, ◌^◌, ℕ, zero, suc, List, [], ◌∷◌, ◌++◌, length, map, take, drop, replicate, true, false, refl, sym, ap, ◌∙◌, subst, arith, length-append, mul_comm, append_assoc, eqb}
+use Rattle.std.specs.Prelude.{Option, Some, None, Result, Ok, Err, if◌then◌else◌}
 use Rattle.std.specs.List.{AllByRecursion}
 use Rattle.std.proofs.lemmas.Bool.{lt-ltb}
 use Rattle.std.proofs.lemmas.List.{length-map, drop_at}
 use Rattle.byteorder.specs.Endian.{little_number}
 use Rattle.byteorder.specs.Numbers.{little_number-reads_back, length-bytes_low_first}
-use Rattle.ix_frame.specs.Segments.{numbers_of_four}
+use Rattle.ix_frame.specs.Segments.{numbers_of_four, word_at}
 use Rattle.ix_num.specs.declared.fault.FrameFault.{FrameFault}
 use Rattle.byteorder.specs.Endian.{little_bytes}
 use Rattle.ix_frame.specs.Result.{◌>>=◌}
 use Rattle.ix_frame.specs.Target.{Object, Elements}
-use Rattle.ix_frame.specs.Objects.{struct_at, elements_at, list_at, text_at, struct_behind, struct_found, elements_behind, elements_found, list_behind, list_found, text_behind, text_found, element_of, numbers_in, no_elements, no_struct}
+use Rattle.ix_frame.specs.Objects.{struct_at, elements_at, list_at, text_at, struct_behind, struct_found, elements_behind, elements_found, list_behind, list_found, text_behind, text_found, element_of, numbers_in, no_elements, no_struct, has_pointer}
 use Rattle.ix_message.specs.Shape.{Text, Kind, Field, Struct, Pointers, Branches, Value, Parts, struct_of, no_more, text, texts, numbers, struct, struct_or_none, boxed, structs, branches, string_table, unread, ends, branch}
-use Rattle.ix_message.specs.Reading.{Reads, row_at, each_from, texts_from, texts_at, branches_from, value_at, parts_at}
+use Rattle.ix_message.specs.Reading.{Reads, some_of, row_at, each_from, texts_from, texts_at, branches_from, value_at, parts_at}
 use Rattle.ix_message.specs.Layout.{Laid, Section, padded, number_bytes, data_section, pointer_section, objects, section_bytes, section_words, element_sections, element_objects, list_pointer, struct_pointer, text_laid, texts_laid, numbers_laid, struct_laid, structs_laid, branch_sections, boxed_laid, option_laid, section_of, all_laid, nothing_laid}
-use Rattle.ix_message.proofs.Stands.{Stands, stands_front, stands_behind, length-padded, length-number_bytes}
+use Rattle.ix_message.specs.Records.{IfThere}
+use Rattle.ix_message.proofs.Pointer.{struct_parts}
+use Rattle.ix_message.proofs.Stands.{Stands, word_stands, stands_front, stands_behind, length-padded, length-number_bytes}
 use Rattle.ix_message.proofs.Rows.{AreNumbers, struct_here, row_again}
-use Rattle.ix_message.proofs.Behind.{target_none, elements_here, elements_here_again, struct_here_again, list_here_again, text_here_again}
+use Rattle.ix_message.proofs.Behind.{not_zero, target_none, elements_here, elements_here_again, struct_here_again, list_here_again, text_here_again}
 use Rattle.ix_message.proofs.Whole.{words, Whole, whole-append, words-append, AllWhole, whole-objects, HasPointers, HasPointer, first_pointer, other_pointers, HasSection, HasSections, first_section, other_sections, IsWide, length-pointer_section, length-section_bytes, whole-element_objects, length-structs_laid, whole-structs_laid, list_sections}
-use Rattle.ix_message.proofs.Wide.{data_slots, slots_of, struct_data, struct_slots, AreSections, IsRawText, AreRawBranches, IsRaw, AreRaw, tables, all_texts, nothing_whole, length-row, all_map, length-all_laid, whole-text, whole-texts, whole-numbers, whole-struct, whole-boxed, branches_wide, section_wide, parts_whole}
+use Rattle.ix_message.proofs.Wide.{data_slots, slots_of, struct_data, struct_slots, AreSections, IsRawText, AreRawBranches, IsRaw, AreRaw, tables, all_texts, nothing_whole, length-row, all_map, length-all_laid, whole-text, whole-texts, whole-numbers, whole-struct, whole-boxed, whole-option, box_wide, branches_wide, section_wide, parts_whole}
 
 -- An element is read wherever its section stands, and costs the objects behind it.
 abbrev pub IsReadAgain : {A : Type 0} → (List ℕ) → (Object → ℕ → Reads A) → (d p : ℕ) → Section → A → Type 0
@@ -284,6 +286,9 @@ tree_again S fields (branch row below beside) read sections raw bound q gap star
     let next : Reads Elements → Reads (Branches (List ℕ)) = λ r. r >>= λ l. branches_from bound fields l.0.count l.0 0 l.1 in
     ap next found ∙ each
 
+abbrev pub grown : List ℕ → Branches (List ℕ) → Reads (Branches (List ℕ)) → Reads (Branches (List ℕ))
+grown row below beside = beside >>= λ y. Ok (branch row below y.0, y.1)
+
 pub tree_read : (S : List ℕ) (fields : List Field) → AreSections (data_slots fields) 1 → length S < 2 ^ 30 → (b : Branches (List ℕ)) → AreRawBranches fields b → IsTreeRead S fields b
 unfolding branch_sections branches_from
 tree_read S fields sections small ends raw bound start n i at ahead budget left enough at-is h cost = no_branches bound fields (elements_here S start n (data_slots fields) 1) i budget left (omega (arith, cost))
@@ -312,11 +317,88 @@ tree_read S fields sections small (branch row below beside) raw (suc bound) star
     let inner = tree_again S fields below (tree_read S fields sections small below raw.1) sections raw.1 bound (place + d) (0 + ((d + 1) * length es + ahead)) place d 1 0 budget middle (omega (arith, enough)) small (omega arith) (omega arith)
         (first_pointer S (place + d) ((d + 1) * length es + ahead) x [] pointers) (omega (arith, sum, one, cost)) in
     let others = tree_read S fields sections small beside raw.2 bound start n (i + 1) (at + (d + 1)) (ahead + words (objects e.behind)) middle left (omega (arith, enough)) (omega (arith, at-is)) (other_sections S d 1 (d + 1) at ahead e es refl wide.0 h) refl in
-    ?
+    then_again (elements_at (struct_here S place d 1) 0 budget) (λ l. branches_from bound fields l.0.count l.0 0 l.1) _
+        (λ x. grown (row_at fields 0 (struct_here S place d 1)) x.0 (branches_from bound fields (length es) (elements_here S start n d 1) (i + 1) x.1)) (below, middle) inner ∙ rw (others, row_is) refl
+
+list_cost : (d p : ℕ) (es : List Section) → AllByRecursion (IsWide d p) es → 0 < d + p → length es + words (element_objects es) ≤ words (structs_laid es).object
+unfolding structs_laid
+list_cost d p [] wide some = omega arith
+list_cost d p (e ∷ es) wide some = omega (arith, length-structs_laid d p e es wide, times_more (d + p) (length (e ∷ es)) some)
+
+nodes_words : (fields : List Field) (b : Branches (List ℕ)) → AreRawBranches fields b → nodes b ≤ length (branch_sections b) + words (element_objects (branch_sections b))
+unfolding branch_sections
+nodes_words fields ends raw = omega arith
+nodes_words fields (branch row below beside) raw =
+    let d = data_slots fields in
+    let x = structs_laid (branch_sections below) in
+    let wide = branches_wide fields (branch row below beside) raw in
+    let rest = element_objects (branch_sections beside) in
+    let sum = words-append (x.object ++ []) rest (whole-objects (x ∷ []) wide.0.behind) (whole-element_objects d 1 (branch_sections beside) wide.1) in
+    let one = words-append x.object [] wide.0.behind.0 nothing_whole in
+    let under = list_cost d 1 (branch_sections below) (branches_wide fields below raw.1) (omega arith) in
+    omega (arith, sum, one, under, nodes_words fields below raw.1, nodes_words fields beside raw.2)
 
 -- each node takes a word
 pub nodes_cost : (fields : List Field) (b : Branches (List ℕ)) → AreSections (data_slots fields) 1 → AreRawBranches fields b → nodes b ≤ words (structs_laid (branch_sections b)).object
-nodes_cost fields b sections raw = ?
+nodes_cost fields b sections raw = omega (arith, nodes_words fields b raw, list_cost (data_slots fields) 1 (branch_sections b) (branches_wide fields b raw) sections.some)
+
+-- ---- a struct that may not be there, and a list within a struct
+
+pub option_again : {A : Type 0} (S : List ℕ) (read : Object → ℕ → Reads A) (section : A → Section) (d p : ℕ) (P : A → Type 0)
+    → ((x : A) → P x → IsReadAgain S read d p (section x) x) → ((x : A) → P x → IsWide d p (section x)) → ((x : A) → P x → AreSections d p)
+    → (o : Option A) → IfThere P o → (q gap start dw total slot budget left : ℕ) → length S < 2 ^ 30 → slot < total → q ≡ start + dw + slot
+    → HasPointer S q gap (option_laid section o) → budget ≡ words (option_laid section o).object + left
+    → (if has_pointer (struct_here S start dw total) slot then some_of (struct_at (struct_here S start dw total) slot budget >>= λ inner. read inner.0 inner.1) else Ok (None, budget)) ≡ Ok (o, left)
+unfolding has_pointer
+option_again S read section d p P again wide sized None h q gap start dw total slot budget left small in_slots q-is stands cost =
+    let word : word_at S (start + dw + slot) ≡ 0 = ap (word_at S) (sym q-is) ∙ word_stands S q 0 (omega arith) stands.word in
+    rw (lt-ltb slot total in_slots, word) (ap (λ (k : ℕ). Ok (None, k)) (omega (arith, cost)))
+option_again S read section d p P again wide sized (Some x) h q gap start dw total slot budget left small in_slots q-is stands cost =
+    let e = section x in
+    let x-wide = wide x h in
+    let parts = sized x h in
+    let w = struct_pointer (words e.data_bytes) (length e.behind) gap in
+    let facts = struct_parts (words e.data_bytes) (length e.behind) gap (omega (arith, x-wide.words_is, parts.few_words)) (omega (arith, x-wide.pointers_is, parts.few_pointers)) (omega (arith, stands.object.inside, small)) in
+    let word : word_at S (start + dw + slot) ≡ w = ap (word_at S) (sym q-is) ∙ word_stands S q w facts.below stands.word in
+    let nonzero : eqb w 0 ≡ false = not_zero w (omega (arith, x-wide.words_is, x-wide.pointers_is, parts.some)) in
+    let found = struct_pointer_again S d p q gap start dw total slot budget left e parts x-wide small in_slots q-is stands cost in
+    let first = again x h (q + 1 + gap) 0 (words (objects e.behind) + left) left (struct_section S d p (q + 1 + gap) e x-wide stands.object) refl in
+    rw (lt-ltb slot total in_slots, word, nonzero, found, first) refl
+
+no_struct_again : (S : List ℕ) (q gap start dw total slot budget : ℕ) → slot < total → q ≡ start + dw + slot → HasPointer S q gap nothing_laid
+    → struct_at (struct_here S start dw total) slot budget ≡ Ok (no_struct (S ∷ []), budget)
+unfolding struct_at struct_behind struct_found
+no_struct_again S q gap start dw total slot budget in_slots q-is h =
+    let none = target_none S (start + dw + slot) (subst (λ (k : ℕ). Stands S k (little_bytes 8 0)) q-is h.word) in
+    rw (lt-ltb slot total in_slots, none) refl
+
+no_elements_in : (S : List ℕ) (budget : ℕ) → elements_at (no_struct (S ∷ [])) 0 budget ≡ Ok (no_elements (S ∷ []), budget)
+unfolding elements_at
+no_elements_in S budget = refl
+
+none_each : {A : Type 0} (read : Object → ℕ → Reads A) (l : Elements) (i budget : ℕ) → each_from read 0 l i budget ≡ Ok ([], budget)
+unfolding each_from
+none_each read l i budget = refl
+
+pub boxed_again : {A B : Type 0} (S : List ℕ) (read : Object → ℕ → Reads A) (section : A → Section) (d p : ℕ) (P : A → Type 0)
+    → ((x : A) → P x → IsReadAgain S read d p (section x) x) → ((x : A) → P x → IsWide d p (section x)) → ((x : A) → P x → AreSections d p)
+    → (xs : List A) → AllByRecursion P xs → (q gap start dw total slot budget left : ℕ) → length S < 2 ^ 30 → slot < total → q ≡ start + dw + slot
+    → HasPointer S q gap (boxed_laid (map section xs)) → budget ≡ words (boxed_laid (map section xs)).object + left → (g : List A × ℕ → Reads B)
+    → (struct_at (struct_here S start dw total) slot budget >>= λ box. elements_at box.0 0 box.1 >>= λ l. each_from read l.0.count l.0 0 l.1 >>= g) ≡ g (xs, left)
+boxed_again S read section d p P again wide sized [] h q gap start dw total slot budget left small in_slots q-is stands cost g =
+    rw (no_struct_again S q gap start dw total slot budget in_slots q-is stands, no_elements_in S budget, none_each read (no_elements (S ∷ [])) 0 budget) (ap (λ (k : ℕ). g ([], k)) (omega (arith, cost)))
+boxed_again {A} {B} S read section d p P again wide sized (x ∷ xs) h q gap start dw total slot budget left small in_slots q-is stands cost g =
+    let es = map section (x ∷ xs) in
+    let all = all_map section P (IsWide d p) wide (x ∷ xs) h in
+    let e : Section = record { data_bytes = []; behind = structs_laid es ∷ [] } in
+    let e-wide = box_wide es d p all in
+    let box : AreSections 0 1 = record { some = omega arith; few_words = omega arith; few_pointers = omega arith } in
+    let found = struct_pointer_again S 0 1 q gap start dw total slot budget left e box e-wide small in_slots q-is stands cost in
+    let inside = struct_section S 0 1 (q + 1 + gap) e e-wide stands.object in
+    let one = words-append (structs_laid es).object [] (whole-structs_laid d p es all) nothing_whole in
+    let pointers : HasPointers S (q + 1 + gap) 0 (structs_laid es ∷ []) = record { pointers = inside.section; behind = inside.behind } in
+    let first = structs_again S read section d p P again wide sized (x ∷ xs) h (q + 1 + gap) 0 (q + 1 + gap) 0 1 0 (words (objects e.behind) + left) left small (omega arith) (omega arith) (first_pointer S (q + 1 + gap) 0 (structs_laid es) [] pointers) (omega (arith, one)) in
+    rw found (then_again (elements_at (struct_here S (q + 1 + gap) 0 1) 0 (words (objects e.behind) + left)) (λ l. each_from read l.0.count l.0 0 l.1) B g (x ∷ xs, left) first)
 
 -- ---- values
 
@@ -404,8 +486,33 @@ mutual
       let found = struct_pointer_again S (struct_data s) (struct_slots s) q gap start dw total slot budget middle e (raw_sections s v.0 raw.0) wide small in_slots q-is here cheap in
       let first = value_again S table s small v.0 raw.0 (q + 1 + gap) 0 (words (objects e.behind) + middle) middle (struct_section S (struct_data s) (struct_slots s) (q + 1 + gap) e wide here.object) refl in
       rw (found, first, others) refl
-  parts_again S table (struct_or_none c s ps) small v raw start dw total slot q ahead budget left total-is q-is h cost = ?
-  parts_again S table (boxed c kind inner s ps) small v raw start dw total slot q ahead budget left total-is q-is h cost = ?
+  parts_again S table (struct_or_none c s ps) small v raw start dw total slot q ahead budget left total-is q-is h cost =
+      let x = option_laid (section_of table s) v.0 in
+      let xs = all_laid table ps v.1 in
+      let x-whole = whole-option (struct_data s) (struct_slots s) (section_of table s) (IsRaw s) (section_wide table s) v.0 raw.0 in
+      let sum = words-append x.object (objects xs) x-whole (whole-objects xs (parts_whole table ps v.1 raw.1)) in
+      let middle : ℕ = words (objects xs) + left in
+      let here = first_pointer S q ahead x xs h in
+      let others = parts_again S table ps small v.1 raw.1 start dw total (slot + 1) (q + 1) (ahead + words x.object) middle left (omega (arith, total-is)) (omega (arith, q-is)) (other_pointers S q ahead x xs x-whole h) refl in
+      let o = struct_here S start dw total in
+      let cheap : budget ≡ words x.object + middle = omega (arith, sum, cost) in
+      let in_slots : slot < total = omega (arith, total-is) in
+      let gap = length xs + ahead in
+      let first = option_again S (value_at s) (section_of table s) (struct_data s) (struct_slots s) (IsRaw s) (value_again S table s small) (section_wide table s) (raw_sections s) v.0 raw.0 q gap start dw total slot budget middle small in_slots q-is here cheap in
+      rw (first, others) refl
+  parts_again S table (boxed c kind inner s ps) small v raw start dw total slot q ahead budget left total-is q-is h cost =
+      let x = boxed_laid (map (section_of table s) v.0) in
+      let xs = all_laid table ps v.1 in
+      let x-whole = whole-boxed (struct_data s) (struct_slots s) (map (section_of table s) v.0) (all_map (section_of table s) (IsRaw s) (IsWide (struct_data s) (struct_slots s)) (section_wide table s) v.0 raw.0) in
+      let sum = words-append x.object (objects xs) x-whole (whole-objects xs (parts_whole table ps v.1 raw.1)) in
+      let middle : ℕ = words (objects xs) + left in
+      let here = first_pointer S q ahead x xs h in
+      let others = parts_again S table ps small v.1 raw.1 start dw total (slot + 1) (q + 1) (ahead + words x.object) middle left (omega (arith, total-is)) (omega (arith, q-is)) (other_pointers S q ahead x xs x-whole h) refl in
+      let o = struct_here S start dw total in
+      let cheap : budget ≡ words x.object + middle = omega (arith, sum, cost) in
+      let in_slots : slot < total = omega (arith, total-is) in
+      let gap = length xs + ahead in
+      boxed_again S (value_at s) (section_of table s) (struct_data s) (struct_slots s) (IsRaw s) (value_again S table s small) (section_wide table s) (raw_sections s) v.0 raw.0 q gap start dw total slot budget middle small in_slots q-is here cheap (λ x. paired x.0 (parts_at ps (slot + 1) o x.1)) ∙ rw others refl
   parts_again S table (structs c target s ps) small v raw start dw total slot q ahead budget left total-is q-is h cost =
       let x = structs_laid (map (section_of table s) v.0) in
       let xs = all_laid table ps v.1 in

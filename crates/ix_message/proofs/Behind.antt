@@ -19,7 +19,7 @@ use Rattle.ix_message.proofs.Rows.{struct_here}
 abbrev pub pointed_here : ℕ → ℕ → Pointed
 pointed_here word start = record { described = word; segment = 0; start = Some start }
 
-not_zero : (w : ℕ) → 0 < w → eqb w 0 ≡ false
+pub not_zero : (w : ℕ) → 0 < w → eqb w 0 ≡ false
 not_zero w h = go (eqb w 0) refl
   where
   go : (b : Bool) → eqb w 0 ≡ b → b ≡ false

@@ -148,7 +148,7 @@ branches_wide fields (branch row below beside) h =
       behind = one_whole (structs_laid (branch_sections below)) (whole-structs_laid (data_slots fields) 1 (branch_sections below) (branches_wide fields below h.1));
     }, branches_wide fields beside h.2)
 
-whole-option : {A : Type 0} (d p : ℕ) (section : A → Section) (P : A → Type 0) → ((x : A) → P x → IsWide d p (section x)) → (o : Option A) → IfThere P o → Whole (option_laid section o).object
+pub whole-option : {A : Type 0} (d p : ℕ) (section : A → Section) (P : A → Type 0) → ((x : A) → P x → IsWide d p (section x)) → (o : Option A) → IfThere P o → Whole (option_laid section o).object
 whole-option d p section P wide None h = nothing_whole
 whole-option d p section P wide (Some x) h = whole-struct d p (section x) (wide x h)
 

@@ -6,3 +6,4 @@ pub mod Behind
 pub mod Whole
 pub mod Wide
 pub mod Again
+pub mod RawOf

@@ -7,3 +7,4 @@ pub mod Whole
 pub mod Wide
 pub mod Again
 pub mod RawOf
+pub mod Table

@@ -112,15 +112,15 @@ unfoldable mutual
 -- the slot of the string table among these pointers
 abbrev pub table_slot : Pointers → ℕ
 table_slot (string_table called ps) = 0
-table_slot (text called ps) = table_slot ps + 1
-table_slot (texts called ps) = table_slot ps + 1
-table_slot (numbers called target kind ps) = table_slot ps + 1
-table_slot (struct called s ps) = table_slot ps + 1
-table_slot (struct_or_none called s ps) = table_slot ps + 1
-table_slot (boxed called kind inner s ps) = table_slot ps + 1
-table_slot (structs called target s ps) = table_slot ps + 1
-table_slot (branches called kind fields ps) = table_slot ps + 1
-table_slot (unread called ps) = table_slot ps + 1
+table_slot (text called ps) = suc (table_slot ps)
+table_slot (texts called ps) = suc (table_slot ps)
+table_slot (numbers called target kind ps) = suc (table_slot ps)
+table_slot (struct called s ps) = suc (table_slot ps)
+table_slot (struct_or_none called s ps) = suc (table_slot ps)
+table_slot (boxed called kind inner s ps) = suc (table_slot ps)
+table_slot (structs called target s ps) = suc (table_slot ps)
+table_slot (branches called kind fields ps) = suc (table_slot ps)
+table_slot (unread called ps) = suc (table_slot ps)
 table_slot no_more = 0
 
 abbrev pub pointers_of : Struct → Pointers

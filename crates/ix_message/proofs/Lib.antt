@@ -8,3 +8,4 @@ pub mod Wide
 pub mod Again
 pub mod RawOf
 pub mod Table
+pub mod Files

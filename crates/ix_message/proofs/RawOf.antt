@@ -53,7 +53,7 @@ masked place row bus_tag (the_number n) h = omega arith
 masked place row bus_tag (the_text t) h = absurd h
 masked place row _ d h = refl
 
-raw_row : (place : Text → ℕ) → IsNumbering place → (row : List ℕ) (fields : List Field) (ds : List Datum) → AreData row fields ds → AreNumbers fields (map (number_for place) ds)
+pub raw_row : (place : Text → ℕ) → IsNumbering place → (row : List ℕ) (fields : List Field) (ds : List Datum) → AreData row fields ds → AreNumbers fields (map (number_for place) ds)
 raw_row place few row [] [] h = tt
 raw_row place few row [] (d ∷ ds) h = absurd h
 raw_row place few row (f ∷ fs) [] h = absurd h

@@ -9,3 +9,4 @@ pub mod Again
 pub mod RawOf
 pub mod Table
 pub mod Files
+pub mod Proper

@@ -1,17 +1,24 @@
--- The law of any message at the four tables, whose structs have sections that a pointer can tell.
-use Rattle.std.proofs.Common.{refl, arith}
-use Rattle.ix_message.proofs.Wide.{AreSections}
-use Rattle.ix_message.proofs.Files.{file_again}
+-- The law of any message at the four tables.
+use Rattle.std.proofs.Common.{refl}
+use Rattle.ix_message.specs.Device.{device}
+use Rattle.ix_message.specs.Netlist.{netlist}
+use Rattle.ix_message.specs.Packed.{packed}
+use Rattle.ix_message.specs.Phys.{phys_netlist}
+use Rattle.ix_message.proofs.Proper.{are_sections, is_proper, is_root, message_again}
 use Rattle.ix_message.proofs.laws.messages_read_again.Goals as goal
 
-pub returns-clause-packed : goal.returns-clause-packed
-returns-clause-packed c = file_again _ _ _ ? ? refl
-
-pub returns-clause-phys : goal.returns-clause-phys
-returns-clause-phys c = file_again _ _ _ ? ? refl
+pub returns-clause-device : goal.returns-clause-device
+unfolding is_root is_proper are_sections
+returns-clause-device c = message_again device refl
 
 pub returns-clause-netlist : goal.returns-clause-netlist
-returns-clause-netlist c = file_again _ _ _ ? ? refl
+unfolding is_root is_proper are_sections
+returns-clause-netlist c = message_again netlist refl
 
-pub returns-clause-device : goal.returns-clause-device
-returns-clause-device c = file_again _ _ _ ? ? refl
+pub returns-clause-phys : goal.returns-clause-phys
+unfolding is_root is_proper are_sections
+returns-clause-phys c = message_again phys_netlist refl
+
+pub returns-clause-packed : goal.returns-clause-packed
+unfolding is_root is_proper are_sections
+returns-clause-packed c = message_again packed refl

@@ -1,3 +1,4 @@
+pub mod Lists
 pub mod NamesAgain
 pub mod Pointer
 pub mod Stands

@@ -1,7 +1,7 @@
 -- The form of a message: its structs, with their fields in order. A struct has numbers in its data section, each in a
 -- slot of 32 bits, and objects behind the pointers of its pointer section, each in a slot of its own.
 use Prim.Native.String.{String}
-use Rattle.std.specs.Prelude.{ℕ, List, Option}
+use Rattle.std.specs.Prelude.{ℕ, ◌+◌, List, [], ◌∷◌, ◌++◌, Option}
 
 -- a text is its bytes, each below 256
 abbrev pub Text : Type 0
@@ -11,7 +11,7 @@ Text = List ℕ
 pub data Target : Type 0 where
   nowhere strings site_types tile_types wires bel_pins tile_wires cell_decls ports instances : Target
 
--- What a number stands for.
+-- What a number stands for. A tag or an enumerant is the low 16 bits of its slot, a Bool the lowest.
 pub data Kind : Type 0 where
   -- itself, a Bool, or nothing: it isn't looked at, and written as 0
   number flag nothing : Kind
@@ -64,6 +64,11 @@ mutual
 pub data Branches (A : Type 0) : Type 0 where
   ends : Branches A
   branch : A → Branches A → Branches A → Branches A
+
+-- a tree as its preorder list, each item with its depth; a list of branches begins at depth 0
+abbrev pub preorder : {A : Type 0} → ℕ → Branches A → List (ℕ × A)
+preorder depth ends = []
+preorder depth (branch x below beside) = (depth, x) ∷ (preorder (depth + 1) below ++ preorder depth beside)
 
 -- The values of a struct: a row of what its data slots hold, and what its pointers lead to. The string table has no
 -- value of its own, since N may be texts.

@@ -1,27 +1,26 @@
 -- What is laid out in a segment is read again.
-use Rattle.std.proofs.Common.{◌≡◌, ◌<◌, ◌≤◌, ◌+◌, ◌-◌, ◌*◌, ◌/◌, ◌%◌, ◌^◌, ℕ, zero, suc, List, [], ◌∷◌, ◌++◌, length, map, take, drop, replicate, true, false, refl, sym, ap, ◌∙◌, subst, arith, length-append, mul_comm, append_assoc, eqb}
-use Rattle.std.specs.Prelude.{Option, Some, None, Result, Ok, Err, if◌then◌else◌}
+use Rattle.std.proofs.Common.{◌≡◌, ◌<◌, ◌≤◌, ◌+◌, ◌-◌, ◌*◌, ◌/◌, ◌%◌, ◌^◌, ℕ, zero, suc, List, [], ◌∷◌, ◌++◌, length, map, drop, replicate, false, refl, sym, ap, ◌∙◌, subst, arith, length-append, mul_comm, append_assoc, eqb}
+use Rattle.std.specs.Prelude.{Option, Some, None, Ok, Err, if◌then◌else◌}
 use Rattle.std.specs.List.{AllByRecursion}
 use Rattle.std.proofs.lemmas.Bool.{lt-ltb}
 use Rattle.std.proofs.lemmas.List.{length-map, drop_at}
 use Rattle.byteorder.specs.Endian.{little_number}
 use Rattle.byteorder.specs.Numbers.{little_number-reads_back, length-bytes_low_first}
 use Rattle.ix_frame.specs.Segments.{numbers_of_four, word_at}
-use Rattle.ix_num.specs.declared.fault.FrameFault.{FrameFault}
 use Rattle.byteorder.specs.Endian.{little_bytes}
 use Rattle.ix_frame.specs.Result.{◌>>=◌}
 use Rattle.ix_frame.specs.Target.{Object, Elements}
-use Rattle.ix_frame.specs.Objects.{struct_at, elements_at, list_at, text_at, struct_behind, struct_found, elements_behind, elements_found, list_behind, list_found, text_behind, text_found, element_of, numbers_in, no_elements, no_struct, has_pointer}
-use Rattle.ix_message.specs.Shape.{Text, Kind, Field, Struct, Pointers, Branches, Value, Parts, struct_of, no_more, text, texts, numbers, struct, struct_or_none, boxed, structs, branches, string_table, unread, ends, branch}
+use Rattle.ix_frame.specs.Objects.{struct_at, elements_at, list_at, text_at, struct_behind, struct_found, elements_behind, elements_found, list_behind, list_found, text_behind, text_found, numbers_in, no_elements, no_struct, has_pointer}
+use Rattle.ix_message.specs.Shape.{Text, Field, Struct, Pointers, Branches, Value, Parts, struct_of, no_more, text, texts, numbers, struct, struct_or_none, boxed, structs, branches, string_table, unread, ends, branch}
 use Rattle.ix_message.specs.Reading.{Reads, some_of, row_at, each_from, texts_from, texts_at, branches_from, value_at, parts_at}
-use Rattle.ix_message.specs.Layout.{Laid, Section, padded, number_bytes, data_section, pointer_section, objects, section_bytes, section_words, element_sections, element_objects, list_pointer, struct_pointer, text_laid, texts_laid, numbers_laid, struct_laid, structs_laid, branch_sections, boxed_laid, option_laid, section_of, all_laid, nothing_laid}
+use Rattle.ix_message.specs.Layout.{Section, padded, number_bytes, data_section, pointer_section, objects, section_bytes, section_words, element_sections, element_objects, struct_pointer, text_laid, texts_laid, numbers_laid, struct_laid, structs_laid, branch_sections, boxed_laid, option_laid, section_of, all_laid, nothing_laid}
 use Rattle.ix_message.specs.Records.{IfThere}
 use Rattle.ix_message.proofs.Pointer.{struct_parts}
 use Rattle.ix_message.proofs.Stands.{Stands, word_stands, stands_front, stands_behind, length-padded, length-number_bytes}
-use Rattle.ix_message.proofs.Rows.{AreNumbers, struct_here, row_again}
+use Rattle.ix_message.proofs.Rows.{struct_here, row_again}
 use Rattle.ix_message.proofs.Behind.{not_zero, target_none, elements_here, elements_here_again, struct_here_again, list_here_again, text_here_again}
-use Rattle.ix_message.proofs.Whole.{words, Whole, whole-append, words-append, AllWhole, whole-objects, HasPointers, HasPointer, first_pointer, other_pointers, HasSection, HasSections, first_section, other_sections, IsWide, length-pointer_section, length-section_bytes, whole-element_objects, length-structs_laid, whole-structs_laid, list_sections}
-use Rattle.ix_message.proofs.Wide.{data_slots, slots_of, struct_data, struct_slots, AreSections, IsRawText, AreRawBranches, IsRaw, AreRaw, tables, all_texts, nothing_whole, length-row, all_map, length-all_laid, whole-text, whole-texts, whole-numbers, whole-struct, whole-boxed, whole-option, box_wide, branches_wide, section_wide, parts_whole}
+use Rattle.ix_message.proofs.Whole.{words, words-append, whole-objects, HasPointers, HasPointer, first_pointer, other_pointers, HasSection, HasSections, first_section, other_sections, IsWide, length-pointer_section, length-section_bytes, whole-element_objects, length-structs_laid, whole-structs_laid, list_sections}
+use Rattle.ix_message.proofs.Wide.{data_slots, slots_of, struct_data, struct_slots, AreSections, IsRawText, AreRawBranches, IsRaw, AreRaw, tables, all_texts, nothing_whole, length-row, all_map, whole-text, whole-texts, whole-numbers, whole-struct, whole-boxed, whole-option, box_wide, branches_wide, section_wide, parts_whole}
 
 -- An element is read wherever its section stands, and costs the objects behind it.
 abbrev pub IsReadAgain : {A : Type 0} → (List ℕ) → (Object → ℕ → Reads A) → (d p : ℕ) → Section → A → Type 0
@@ -66,15 +65,15 @@ list_at_again S d p q gap start dw total slot budget left e es sections wide sma
     let elements = element_sections w 0 (e ∷ es) in
     let tagged : Stands S (q + 1 + gap) tag = stands_front S (q + 1 + gap) tag elements (stands_front S (q + 1 + gap) (tag ++ elements) (element_objects (e ∷ es)) h.object) in
     let inner = elements_here_again S q gap (n * w) n (words e.data_bytes) (length e.behind) budget
-        (omega (arith, wide.0.words_is, sections.few_words)) (omega (arith, wide.0.pointers_is, sections.few_pointers)) (omega (arith, h.object.inside, small)) (omega (arith, product, long, h.object.inside, small))
-        (omega (arith, more, long, h.object.inside, small)) (omega (arith, wide.0.words_is, wide.0.pointers_is, sections.some)) (omega arith)
-        (omega (arith, product, long, h.object.inside)) (omega (arith, product, long, cost)) h.word tagged in
+    (omega (arith, wide.0.words_is, sections.few_words)) (omega (arith, wide.0.pointers_is, sections.few_pointers)) (omega (arith, h.object.inside, small)) (omega (arith, product, long, h.object.inside, small))
+    (omega (arith, more, long, h.object.inside, small)) (omega (arith, wide.0.words_is, wide.0.pointers_is, sections.some)) (omega arith)
+    (omega (arith, product, long, h.object.inside)) (omega (arith, product, long, cost)) h.word tagged in
     let spent : budget - (1 + n * w) ≡ words (element_objects (e ∷ es)) + left = omega (arith, product, long, cost) in
     let found : ℕ → ℕ → ℕ → Reads Elements = λ a b k. Ok (elements_here S (q + 1 + gap + 1) n a b, k) in
     let same : found (words e.data_bytes) (length e.behind) (budget - (1 + n * w)) ≡ found d p (words (element_objects (e ∷ es)) + left) =
-        λ i. found (wide.0.words_is i) (wide.0.pointers_is i) (spent i) in
+    λ i. found (wide.0.words_is i) (wide.0.pointers_is i) (spent i) in
     let at_q : elements_behind (S ∷ []) 0 (start + dw + slot) budget ≡ Ok (elements_here S (q + 1 + gap + 1) n d p, words (element_objects (e ∷ es)) + left) =
-        subst (λ (k : ℕ). elements_behind (S ∷ []) 0 k budget ≡ Ok (elements_here S (q + 1 + gap + 1) n d p, words (element_objects (e ∷ es)) + left)) q-is (inner ∙ same) in
+    subst (λ (k : ℕ). elements_behind (S ∷ []) 0 k budget ≡ Ok (elements_here S (q + 1 + gap + 1) n d p, words (element_objects (e ∷ es)) + left)) q-is (inner ∙ same) in
     rw (lt-ltb slot total in_slots) at_q
 
 -- an empty list
@@ -150,11 +149,11 @@ struct_pointer_again S d p q gap start dw total slot budget left e sections wide
     let behind = whole-objects e.behind wide.behind in
     let all : length (struct_laid e).object ≡ 8 * (d + p + words (objects e.behind)) = omega (arith, long, behind.long, length-append (section_bytes 0 e) (objects e.behind)) in
     let read = struct_here_again S q gap (words e.data_bytes) (length e.behind) budget (omega (arith, wide.words_is, sections.few_words)) (omega (arith, wide.pointers_is, sections.few_pointers))
-        (omega (arith, h.object.inside, small)) (omega (arith, wide.words_is, wide.pointers_is, sections.some)) (omega (arith, all, h.object.inside, wide.words_is, wide.pointers_is)) (omega (arith, all, cost, wide.words_is, wide.pointers_is)) h.word in
+    (omega (arith, h.object.inside, small)) (omega (arith, wide.words_is, wide.pointers_is, sections.some)) (omega (arith, all, h.object.inside, wide.words_is, wide.pointers_is)) (omega (arith, all, cost, wide.words_is, wide.pointers_is)) h.word in
     let spent : budget - (words e.data_bytes + length e.behind) ≡ words (objects e.behind) + left = omega (arith, all, cost, wide.words_is, wide.pointers_is) in
     let found : ℕ → ℕ → ℕ → Reads Object = λ a b k. Ok (struct_here S (q + 1 + gap) a b, k) in
     let same : found (words e.data_bytes) (length e.behind) (budget - (words e.data_bytes + length e.behind)) ≡ found d p (words (objects e.behind) + left) =
-        λ i. found (wide.words_is i) (wide.pointers_is i) (spent i) in
+    λ i. found (wide.words_is i) (wide.pointers_is i) (spent i) in
     rw (lt-ltb slot total in_slots) (subst (λ (k : ℕ). struct_behind (S ∷ []) 0 k budget ≡ found d p (words (objects e.behind) + left)) q-is (read ∙ same))
 
 pub struct_section : (S : List ℕ) (d p at : ℕ) (e : Section) → IsWide d p e → Stands S at (struct_laid e).object → HasSection S at 0 e
@@ -315,10 +314,10 @@ tree_read S fields sections small (branch row below beside) raw (suc bound) star
       behind = subst (λ (k : ℕ). Stands S k (objects (x ∷ []))) (omega (arith, wide.0.words_is)) here.behind;
     } in
     let inner = tree_again S fields below (tree_read S fields sections small below raw.1) sections raw.1 bound (place + d) (0 + ((d + 1) * length es + ahead)) place d 1 0 budget middle (omega (arith, enough)) small (omega arith) (omega arith)
-        (first_pointer S (place + d) ((d + 1) * length es + ahead) x [] pointers) (omega (arith, sum, one, cost)) in
+    (first_pointer S (place + d) ((d + 1) * length es + ahead) x [] pointers) (omega (arith, sum, one, cost)) in
     let others = tree_read S fields sections small beside raw.2 bound start n (i + 1) (at + (d + 1)) (ahead + words (objects e.behind)) middle left (omega (arith, enough)) (omega (arith, at-is)) (other_sections S d 1 (d + 1) at ahead e es refl wide.0 h) refl in
     then_again (elements_at (struct_here S place d 1) 0 budget) (λ l. branches_from bound fields l.0.count l.0 0 l.1) _
-        (λ x. grown (row_at fields 0 (struct_here S place d 1)) x.0 (branches_from bound fields (length es) (elements_here S start n d 1) (i + 1) x.1)) (below, middle) inner ∙ rw (others, row_is) refl
+    (λ x. grown (row_at fields 0 (struct_here S place d 1)) x.0 (branches_from bound fields (length es) (elements_here S start n d 1) (i + 1) x.1)) (below, middle) inner ∙ rw (others, row_is) refl
 
 list_cost : (d p : ℕ) (es : List Section) → AllByRecursion (IsWide d p) es → 0 < d + p → length es + words (element_objects es) ≤ words (structs_laid es).object
 unfolding structs_laid
@@ -411,6 +410,7 @@ raw_sections (struct_of c fields ps) v h = h.0
 
 mutual
   unfolding value_at parts_at section_of all_laid
+
   pub value_again : (S : List ℕ) (table : List Text) (s : Struct) → length S < 2 ^ 30 → (v : Value ℕ s) → IsRaw s v → IsReadAgain S (value_at s) (struct_data s) (struct_slots s) (section_of table s v) v
   value_again S table (struct_of c fields ps) small v raw at ahead budget left h cost =
       let d = data_slots fields in

@@ -1,18 +1,16 @@
 -- What is behind a pointer that stands in a segment.
-use Rattle.std.proofs.Common.{◌≡◌, ◌≢◌, ◌<◌, ◌≤◌, ◌+◌, ◌-◌, ◌*◌, ◌/◌, ◌%◌, ◌^◌, ℕ, zero, suc, List, [], ◌∷◌, ◌++◌, length, drop, true, false, refl, sym, ap, ◌∙◌, subst, arith, append_assoc, add-one, length-append, eqb, ltb, eq-eqb, take, get_or}
-use Rattle.std.specs.Prelude.{Option, Some, None, Result, Ok, Err, Bool, max, slice_index}
+use Rattle.std.proofs.Common.{◌≡◌, ◌<◌, ◌≤◌, ◌+◌, ◌-◌, ◌*◌, ◌/◌, ◌^◌, ℕ, List, [], ◌∷◌, ◌++◌, length, drop, true, false, refl, ap, ◌∙◌, arith, length-append, eqb, ltb, eq-eqb, take}
+use Rattle.std.specs.Prelude.{Some, None, Ok, Bool, max, slice_index}
 use Rattle.std.proofs.lemmas.List.{take_at}
 use Rattle.std.proofs.Math.Seq.{get_or-append_seam}
 use Rattle.std.specs.Str.{is_utf8}
 use Rattle.std.proofs.lemmas.Bool.{lt-ltb, le-leb, eqb-true}
 use Rattle.byteorder.specs.Endian.{little_bytes}
-use Rattle.ix_num.specs.declared.fault.FrameRule.{FrameRule}
-use Rattle.ix_frame.specs.Result.{◌>>=◌, unless}
-use Rattle.ix_frame.specs.Segments.{Segments, segment_at, word_at, has_words}
-use Rattle.ix_frame.specs.Target.{Object, Elements, Pointed, target, near, placed, offset_from, struct_target, list_target, composite_target, kind_of, offset_of, data_words_of, pointer_words_of, element_size_of, element_count_of, list_words}
+use Rattle.ix_frame.specs.Segments.{word_at}
+use Rattle.ix_frame.specs.Target.{Elements, Pointed, target, placed, struct_target, list_target, composite_target, kind_of, offset_of, data_words_of, pointer_words_of, element_size_of, element_count_of, list_words}
 use Rattle.ix_frame.specs.Objects.{struct_found, struct_behind, elements_found, elements_behind, list_found, list_behind, text_of, text_found, text_behind, charged, plain_cost, composite_cost}
 use Rattle.ix_message.specs.Layout.{struct_pointer, list_pointer}
-use Rattle.ix_message.proofs.Pointer.{StructParts, struct_parts, ListParts, list_parts}
+use Rattle.ix_message.proofs.Pointer.{StructParts, struct_parts, list_parts}
 use Rattle.ix_message.proofs.Stands.{Stands, word_stands, words_inside}
 use Rattle.ix_message.proofs.Rows.{struct_here}
 
@@ -22,9 +20,9 @@ pointed_here word start = record { described = word; segment = 0; start = Some s
 pub not_zero : (w : ℕ) → 0 < w → eqb w 0 ≡ false
 not_zero w h = go (eqb w 0) refl
   where
-  go : (b : Bool) → eqb w 0 ≡ b → b ≡ false
-  go true e = absurd (omega (arith, eqb-true w 0 e))
-  go false e = refl
+    go : (b : Bool) → eqb w 0 ≡ b → b ≡ false
+    go true e = absurd (omega (arith, eqb-true w 0 e))
+    go false e = refl
 
 pub target_here : (S : List ℕ) (q w gap : ℕ) → w < 256 ^ 8 → 0 < w → kind_of w < 2 → offset_of w ≡ gap → gap < 2 ^ 29
     → Stands S q (little_bytes 8 w) → target (S ∷ []) 0 q ≡ Ok (Some (pointed_here w (q + 1 + gap)))

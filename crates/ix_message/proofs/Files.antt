@@ -1,31 +1,29 @@
 -- What is encoded reads again as itself.
 use Prim.Native.String.{String}
-use Rattle.std.proofs.Common.{◌≡◌, ◌<◌, ◌≤◌, ◌+◌, ◌-◌, ◌*◌, ◌/◌, ◌%◌, ◌^◌, ℕ, zero, suc, List, [], ◌∷◌, ◌++◌, length, map, take, drop, replicate, sum, Bool, true, false, cond, not, refl, sym, ap, ◌∙◌, subst, arith, length-append, eq-eqb, ltb, leb, eqb, append_assoc}
-use Rattle.std.specs.Prelude.{Option, Some, None, Result, Ok, Err, ◌&&◌, ◌||◌}
+use Rattle.std.proofs.Common.{◌≡◌, ◌<◌, ◌≤◌, ◌+◌, ◌-◌, ◌*◌, ◌/◌, ◌%◌, ◌^◌, ℕ, List, [], ◌∷◌, ◌++◌, length, map, take, drop, replicate, Bool, true, false, not, refl, sym, ap, ◌∙◌, subst, arith, length-append, eq-eqb, ltb, leb, eqb}
+use Rattle.std.specs.Prelude.{Ok, ◌||◌}
 use Rattle.std.specs.List.{AllByRecursion}
-use Rattle.std.proofs.lemmas.Bool.{le-ltb, lt-ltb, le-leb, leb-false}
+use Rattle.std.proofs.lemmas.Bool.{le-ltb, leb-false}
 use Rattle.std.proofs.lemmas.List.{take_all, append-nil}
 use Rattle.byteorder.specs.Endian.{little_bytes, little_number}
 use Rattle.byteorder.specs.Numbers.{little_number-reads_back, length-bytes_low_first}
-use Rattle.ix_frame.specs.Result.{◌>>=◌}
-use Rattle.ix_frame.specs.Segments.{Segments, segments, numbers_of_four, cut, word_count, segment_words, segment_count, table_length, has_words}
-use Rattle.ix_frame.specs.Objects.{blamed, root_of, whole_budget, struct_behind}
-use Rattle.ix_message.specs.Shape.{Text, Kind, Field, Struct, Pointers, Value, Parts, struct_of}
-use Rattle.ix_message.specs.Reading.{Reads, row_at, texts_at, value_at, parts_at, root_at, table_slot, pointers_of}
-use Rattle.ix_message.specs.Indexes.{first_bad}
-use Rattle.ix_message.specs.Names.{Datum, record_of, numbered, parts_numbered, table_of, place_in, first_uses, uses, number_for}
-use Rattle.ix_message.specs.Records.{IsText, IsRecord, AreParts}
-use Rattle.ix_message.specs.Layout.{Laid, Section, too_many_words, number_bytes, data_section, pointer_section, objects, all_fit, section_bytes, section_words, struct_pointer, struct_laid, texts_laid, section_of, all_laid}
-use Rattle.ix_message.specs.Message.{Unread, frame, framed, numbers_in_segments, unless_bad, reading, numbers_of, segment_for, encoding, is_too_long, ReadsAgain}
+use Rattle.ix_frame.specs.Segments.{segments, numbers_of_four, cut}
+use Rattle.ix_frame.specs.Objects.{root_of, whole_budget}
+use Rattle.ix_message.specs.Shape.{Text, Field, Pointers, Value, struct_of}
+use Rattle.ix_message.specs.Reading.{row_at, value_at, root_at, table_slot}
+use Rattle.ix_message.specs.Names.{numbered, parts_numbered, table_of, place_in, uses, number_for}
+use Rattle.ix_message.specs.Records.{IsRecord}
+use Rattle.ix_message.specs.Layout.{Section, too_many_words, number_bytes, data_section, pointer_section, objects, section_bytes, struct_pointer, struct_laid, texts_laid, section_of, all_laid}
+use Rattle.ix_message.specs.Message.{numbers_in_segments, reading, numbers_of, segment_for, encoding, is_too_long, ReadsAgain}
 use Rattle.ix_message.proofs.NamesAgain.{names_again}
 use Rattle.ix_message.proofs.Stands.{Stands, stands_front, stands_behind, words_inside}
 use Rattle.ix_message.proofs.Rows.{AreNumbers, struct_here, row_again}
 use Rattle.ix_message.proofs.Behind.{struct_here_again}
-use Rattle.ix_message.proofs.Whole.{words, Whole, whole_by, whole-append, whole-padded, AllWhole, whole-objects, HasPointers, HasPointer, IsWide, length-section_bytes, words-data_section}
+use Rattle.ix_message.proofs.Whole.{words, whole-padded, whole-objects, HasPointers, IsWide, length-section_bytes, words-data_section}
 use Rattle.ix_message.proofs.Wide.{data_slots, slots_of, tables, AreSections, IsRawText, AreRaw, length-row, length-all_laid, parts_whole}
 use Rattle.ix_message.proofs.Again.{parts_again, texts_at_again, table_words, struct_section}
 use Rattle.ix_message.proofs.RawOf.{AreProper, IsNumbering, raw_row, raw_parts, raw_texts}
-use Rattle.ix_message.proofs.Table.{AreTexts, record_texts, first_uses-texts, place-bound, texts_long, table_nth, nth_long, nth_fits, nth_slot, nth_pointer}
+use Rattle.ix_message.proofs.Table.{record_texts, first_uses-texts, place-bound, texts_long, table_nth, nth_long, nth_fits, nth_slot, nth_pointer}
 
 one_segment_of : (bytes S : List ℕ) (w : ℕ) → length S ≡ 8 * w → length bytes ≡ 8 + length S → little_number 4 bytes ≡ 0 → little_number 4 (drop 4 bytes) ≡ w → drop 8 bytes ≡ S → segments bytes ≡ Ok (S ∷ [])
 unfolding segments numbers_of_four cut
@@ -82,30 +80,30 @@ numbers_again c fields ps table v parts one row raw texts =
     let O : ℕ = words (objects xs) in
     let total : length S ≡ 8 * (1 + (d + p) + O) = omega (arith, length-append pointer (section_bytes 0 e ++ objects xs), pointer_long, length-append (section_bytes 0 e) (objects xs), length-section_bytes 0 d p e wide, behind.long) in
     let again : length S < 2 ^ 30 → numbers_in_segments (struct_of c fields ps) (S ∷ []) ≡ Ok (table, v) = λ small.
-        let alone = whole_alone S in
-        let front : Stands S 0 pointer = stands_front S 0 pointer (section_bytes 0 e ++ objects xs) alone in
-        let word : Stands S 0 (little_bytes 8 (struct_pointer d p 0)) = subst (λ (w : ℕ). Stands S 0 (little_bytes 8 w)) (λ i. struct_pointer (wide.words_is i) (wide.pointers_is i) 0) front in
-        let object : Stands S 1 (section_bytes 0 e ++ objects xs) = stands_behind S 0 1 pointer (section_bytes 0 e ++ objects xs) pointer_long alone in
-        let section = struct_section S d p 1 e wide object in
-        let pointers : HasPointers S (1 + d) 0 xs = record {
-          pointers = stands_behind S 1 d (data_section v.0) (pointer_section 0 xs) (wide.row.long ∙ ap (λ (k : ℕ). 8 * k) wide.words_is) section.section;
-          behind = subst (λ (k : ℕ). Stands S k (objects xs)) (omega (arith, wide.words_is)) section.behind;
-        } in
-        let B : ℕ = whole_budget (S ∷ []) in
-        let B-is : B ≡ 2 * (1 + (d + p) + O) + 64 = budget_of S (1 + (d + p) + O) total in
-        let nth = table_nth table ps v.1 one in
-        let slot = table_slot ps in
-        let found = nth_pointer S slot xs (texts_laid table) (1 + d) 0 nth wide.behind pointers in
-        let T : ℕ = table_words table in
-        let T-less : T ≤ O = omega (arith, nth_long slot xs (texts_laid table) nth) in
-        let after : ℕ = (B - (d + p)) - T in
-        let root = root_again S d p B parts (omega (arith, total)) (omega (arith, B-is)) word in
-        let read = texts_at_again S table (1 + d + slot) found.0 1 d p slot (B - (d + p)) after texts small (omega (arith, nth_slot slot xs (texts_laid table) nth, wide.pointers_is)) refl found.1 (omega (arith, B-is, T-less)) in
-        let others = parts_again S table ps small v.1 raw 1 d p 0 (1 + d) 0 after (after - O) (omega arith) (omega arith) pointers (omega (arith, B-is, T-less)) in
-        let bytes = stands_front S 1 (data_section v.0) (pointer_section 0 xs) section.section in
-        let numbers_here = stands_front S 1 (number_bytes v.0) (replicate ((8 - length (number_bytes v.0) % 8) % 8) 0) bytes in
-        let row_is : row_at fields 0 (struct_here S 1 d p) ≡ v.0 = row_again fields v.0 S 1 d p 0 numbers_here.back row numbers_here.here (omega (arith, row_long)) in
-        rw (root, read, others, row_is) refl in
+    let alone = whole_alone S in
+    let front : Stands S 0 pointer = stands_front S 0 pointer (section_bytes 0 e ++ objects xs) alone in
+    let word : Stands S 0 (little_bytes 8 (struct_pointer d p 0)) = subst (λ (w : ℕ). Stands S 0 (little_bytes 8 w)) (λ i. struct_pointer (wide.words_is i) (wide.pointers_is i) 0) front in
+    let object : Stands S 1 (section_bytes 0 e ++ objects xs) = stands_behind S 0 1 pointer (section_bytes 0 e ++ objects xs) pointer_long alone in
+    let section = struct_section S d p 1 e wide object in
+    let pointers : HasPointers S (1 + d) 0 xs = record {
+      pointers = stands_behind S 1 d (data_section v.0) (pointer_section 0 xs) (wide.row.long ∙ ap (λ (k : ℕ). 8 * k) wide.words_is) section.section;
+      behind = subst (λ (k : ℕ). Stands S k (objects xs)) (omega (arith, wide.words_is)) section.behind;
+    } in
+    let B : ℕ = whole_budget (S ∷ []) in
+    let B-is : B ≡ 2 * (1 + (d + p) + O) + 64 = budget_of S (1 + (d + p) + O) total in
+    let nth = table_nth table ps v.1 one in
+    let slot = table_slot ps in
+    let found = nth_pointer S slot xs (texts_laid table) (1 + d) 0 nth wide.behind pointers in
+    let T : ℕ = table_words table in
+    let T-less : T ≤ O = omega (arith, nth_long slot xs (texts_laid table) nth) in
+    let after : ℕ = (B - (d + p)) - T in
+    let root = root_again S d p B parts (omega (arith, total)) (omega (arith, B-is)) word in
+    let read = texts_at_again S table (1 + d + slot) found.0 1 d p slot (B - (d + p)) after texts small (omega (arith, nth_slot slot xs (texts_laid table) nth, wide.pointers_is)) refl found.1 (omega (arith, B-is, T-less)) in
+    let others = parts_again S table ps small v.1 raw 1 d p 0 (1 + d) 0 after (after - O) (omega arith) (omega arith) pointers (omega (arith, B-is, T-less)) in
+    let bytes = stands_front S 1 (data_section v.0) (pointer_section 0 xs) section.section in
+    let numbers_here = stands_front S 1 (number_bytes v.0) (replicate ((8 - length (number_bytes v.0) % 8) % 8) 0) bytes in
+    let row_is : row_at fields 0 (struct_here S 1 d p) ≡ v.0 = row_again fields v.0 S 1 d p 0 numbers_here.back row numbers_here.here (omega (arith, row_long)) in
+    rw (root, read, others, row_is) refl in
     (λ whole small. again small, omega (arith, total))
 
 or-false : (a b : Bool) → (a || b) ≡ false → (a ≡ false) × (b ≡ false)
@@ -133,8 +131,15 @@ file_again c fields ps parts proper one r h good fine =
     let nth = table_nth table ps (parts_numbered place ps r.1) one in
     let table_fits = nth_fits (table_slot ps) (all_laid table ps (parts_numbered place ps r.1)) (texts_laid table) nth fits in
     let pointer = little_bytes 8 (struct_pointer (words e.data_bytes) (length e.behind) 0) in
-    let few : IsNumbering place = λ t. omega (arith, place-bound table t, texts_long table, nth_long (table_slot ps) (all_laid table ps (parts_numbered place ps r.1)) (texts_laid table) nth,
-        small, length-append pointer (section_bytes 0 e ++ objects e.behind), length-append (section_bytes 0 e) (objects e.behind)) in
+    let few : IsNumbering place = λ t. omega (
+      arith,
+      place-bound table t,
+      texts_long table,
+      nth_long (table_slot ps) (all_laid table ps (parts_numbered place ps r.1)) (texts_laid table) nth,
+      small,
+      length-append pointer (section_bytes 0 e ++ objects e.behind),
+      length-append (section_bytes 0 e) (objects e.behind),
+    ) in
     let row = raw_row place few (map (number_for place) r.0) fields r.0 h.0 in
     let raw = raw_parts place few table ps proper r.1 h.1 fits in
     let texts = raw_texts table (first_uses-texts [] (uses s r) tt (record_texts place s r h)) table_fits in

@@ -1,12 +1,12 @@
 -- A record's texts, numbered by a string table that has them all, are found again by that table.
-use Rattle.std.proofs.Common.{◌≡◌, ◌<◌, ◌+◌, ◌%◌, ◌^◌, ℕ, zero, suc, Bool, true, false, cond, List, [], ◌∷◌, ◌++◌, map, ◌⊎◌, inl, inr, refl, sym, ap, ◌∙◌, subst, arith, add-one, eq-eqb}
+use Rattle.std.proofs.Common.{◌≡◌, ◌+◌, ℕ, Bool, true, false, cond, List, [], ◌∷◌, ◌++◌, map, ◌⊎◌, inl, inr, refl, sym, ap, subst, arith, add-one, eq-eqb}
 use Rattle.std.specs.Prelude.{◌&&◌, ◌==◌, Option, Some, None, slice_index_or}
 use Rattle.std.specs.List.{flat_map, AllByRecursion}
 use Rattle.std.proofs.lemmas.Bool.{eqb-true}
 use Rattle.std.proofs.lemmas.List.Concat.{flat_map-cons}
-use Rattle.ix_message.specs.Shape.{Text, Kind, Field, Struct, Pointers, Branches, Value, Parts, number, flag, nothing, choice, name, index, site_of_tile, port_of_owner, bus_tag, bus_bit, instance_of_cell, by_tag, struct_of, no_more, text, texts, numbers, struct, struct_or_none, boxed, structs, branches, string_table, unread, ends, branch}
+use Rattle.ix_message.specs.Shape.{Text, Kind, Field, Struct, Pointers, Branches, Value, Parts, flag, nothing, choice, name, struct_of, no_more, text, texts, numbers, struct, struct_or_none, boxed, structs, branches, string_table, unread, ends, branch}
 use Rattle.ix_message.specs.Names.{Datum, the_number, the_text, kind_in, same_text, number_for, datum_of, data_of, branches_map, option_with, record_of, parts_of, numbered, parts_numbered, text_in, branch_uses, option_uses, uses, part_uses, place_in, has_text, with_text, first_uses, table_of}
-use Rattle.ix_message.specs.Records.{IsText, IsDatum, AreData, AreBranches, IfThere, IsRecord, AreParts}
+use Rattle.ix_message.specs.Records.{IsDatum, AreData, AreBranches, IfThere, IsRecord, AreParts}
 
 -- ---- texts
 
@@ -45,10 +45,10 @@ unfolding place_in
 place_again [] t h = absurd h
 place_again (x ∷ xs) t h = go (same_text x t) refl h (λ i. place_again xs t i)
   where
-  go : (b : Bool) → same_text x t ≡ b → (x ≡ t) ⊎ IsIn xs t → (IsIn xs t → slice_index_or xs (place_in xs t) [] ≡ t) → slice_index_or (x ∷ xs) (cond b 0 (place_in xs t + 1)) [] ≡ t
-  go true e i again = same_text-true x t e
-  go false e (inl same) again = let r : same_text x t ≡ true = subst (λ (y : Text). same_text x y ≡ true) same (same_text-refl x) in absurd cc
-  go false e (inr later) again = rw add-one (again later)
+    go : (b : Bool) → same_text x t ≡ b → (x ≡ t) ⊎ IsIn xs t → (IsIn xs t → slice_index_or xs (place_in xs t) [] ≡ t) → slice_index_or (x ∷ xs) (cond b 0 (place_in xs t + 1)) [] ≡ t
+    go true e i again = same_text-true x t e
+    go false e (inl same) again = let r : same_text x t ≡ true = subst (λ (y : Text). same_text x y ≡ true) same (same_text-refl x) in absurd cc
+    go false e (inr later) again = rw add-one (again later)
 
 -- ---- data
 
@@ -115,6 +115,7 @@ pair_is x w v p q = λ i. (p i, q i)
 
 mutual
   unfolding record_of parts_of numbered parts_numbered uses part_uses IsRecord AreParts
+
   pub record_again : (table : List Text) (s : Struct) (v : Value Datum s) → IsRecord (place_in table) s v → AreIn table (uses s v) → record_of table s (numbered (place_in table) s v) ≡ v
   record_again table (struct_of called fields ps) v h i =
       let parts = AreIn-append table (flat_map text_in v.0) (part_uses ps v.1) i in
@@ -160,23 +161,23 @@ has_text-true : (xs : List Text) (t : Text) → has_text xs t ≡ true → IsIn 
 has_text-true [] t e = absurd cc
 has_text-true (x ∷ xs) t e = go (same_text x t) refl e (λ r. has_text-true xs t r)
   where
-  go : (b : Bool) → same_text x t ≡ b → cond b true (has_text xs t) ≡ true → (has_text xs t ≡ true → IsIn xs t) → (x ≡ t) ⊎ IsIn xs t
-  go true same e later = inl (same_text-true x t same)
-  go false same e later = inr (later e)
+    go : (b : Bool) → same_text x t ≡ b → cond b true (has_text xs t) ≡ true → (has_text xs t ≡ true → IsIn xs t) → (x ≡ t) ⊎ IsIn xs t
+    go true same e later = inl (same_text-true x t same)
+    go false same e later = inr (later e)
 
 with_text-keeps : (table : List Text) (x t : Text) → IsIn table t → IsIn (with_text table x) t
 with_text-keeps table x t h = go (has_text table x)
   where
-  go : (b : Bool) → IsIn (cond b table (table ++ x ∷ [])) t
-  go true = h
-  go false = IsIn-before table (x ∷ []) t h
+    go : (b : Bool) → IsIn (cond b table (table ++ x ∷ [])) t
+    go true = h
+    go false = IsIn-before table (x ∷ []) t h
 
 with_text-has : (table : List Text) (t : Text) → IsIn (with_text table t) t
 with_text-has table t = go (has_text table t) refl
   where
-  go : (b : Bool) → has_text table t ≡ b → IsIn (cond b table (table ++ t ∷ [])) t
-  go true e = has_text-true table t e
-  go false e = IsIn-last table t
+    go : (b : Bool) → has_text table t ≡ b → IsIn (cond b table (table ++ t ∷ [])) t
+    go true e = has_text-true table t e
+    go false e = IsIn-last table t
 
 -- what is in a table before is in it after, and each text is
 first_uses-keeps : (before ts : List Text) (t : Text) → IsIn before t → IsIn (first_uses before ts) t

@@ -1,5 +1,5 @@
 -- The parts of a pointer that was written.
-use Rattle.std.proofs.Common.{◌≡◌, ◌<◌, ◌+◌, ◌*◌, ◌/◌, ◌%◌, ◌^◌, ℕ, arith}
+use Rattle.std.proofs.Common.{◌≡◌, ◌<◌, ◌^◌, ℕ, arith}
 use Rattle.ix_message.specs.Layout.{struct_pointer, list_pointer}
 use Rattle.ix_frame.specs.Target.{kind_of, offset_of, data_words_of, pointer_words_of, element_size_of, element_count_of}
 

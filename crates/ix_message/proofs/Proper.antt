@@ -1,8 +1,8 @@
 -- A test of a form: each struct has sections that a pointer can tell, and the string table stands in the root alone.
-use Rattle.std.proofs.Common.{◌≡◌, ◌<◌, ◌+◌, ◌^◌, ℕ, zero, suc, List, Bool, true, false, refl, arith, ltb, eqb}
+use Rattle.std.proofs.Common.{◌≡◌, ◌+◌, ◌^◌, ℕ, Bool, true, false, refl, ltb, eqb}
 use Rattle.std.specs.Prelude.{◌&&◌}
 use Rattle.std.proofs.lemmas.Bool.{ltb-true, eqb-true}
-use Rattle.ix_message.specs.Shape.{Field, Struct, Pointers, struct_of, no_more, text, texts, numbers, struct, struct_or_none, boxed, structs, branches, string_table, unread}
+use Rattle.ix_message.specs.Shape.{Struct, Pointers, struct_of, no_more, text, texts, numbers, struct, struct_or_none, boxed, structs, branches, string_table, unread}
 use Rattle.ix_message.specs.Message.{ReadsAgain}
 use Rattle.ix_message.proofs.Wide.{data_slots, slots_of, tables, AreSections}
 use Rattle.ix_message.proofs.RawOf.{Proper, AreProper}
@@ -45,6 +45,7 @@ sections-true d p e =
 
 mutual
   unfolding is_proper are_proper
+
   proper-true : (s : Struct) → is_proper s ≡ true → Proper s
   proper-true (struct_of c fields ps) e =
       let first = and-true (are_sections (data_slots fields) (slots_of ps)) (are_proper ps && eqb (tables ps) 0) e in

@@ -1,15 +1,13 @@
 -- A record's numbers and texts are such as a file can hold.
-use Rattle.std.proofs.Common.{◌≡◌, ◌<◌, ◌≤◌, ◌+◌, ◌-◌, ◌*◌, ◌/◌, ◌%◌, ◌^◌, ℕ, zero, suc, List, [], ◌∷◌, ◌++◌, length, map, Bool, true, false, cond, refl, sym, ap, ◌∙◌, subst, arith}
+use Rattle.std.proofs.Common.{◌≡◌, ◌<◌, ◌-◌, ◌^◌, ℕ, List, [], ◌∷◌, length, map, Bool, true, false, refl, arith}
 use Rattle.std.specs.Prelude.{Option, Some, None, ◌&&◌}
-use Rattle.std.specs.List.{flat_map, AllByRecursion}
-use Rattle.std.specs.Str.{is_utf8}
+use Rattle.std.specs.List.{AllByRecursion}
 use Rattle.std.proofs.lemmas.Bool.{ltb-true}
-use Rattle.std.proofs.lemmas.List.Concat.{flat_map-cons}
-use Rattle.ix_message.specs.Shape.{Text, Kind, Field, Struct, Pointers, Branches, Value, Parts, number, flag, nothing, choice, name, index, site_of_tile, port_of_owner, bus_tag, bus_bit, instance_of_cell, by_tag, struct_of, no_more, text, texts, numbers, struct, struct_or_none, boxed, structs, branches, string_table, unread, ends, branch}
+use Rattle.ix_message.specs.Shape.{Text, Kind, Field, Struct, Pointers, Branches, Value, Parts, flag, nothing, choice, name, bus_tag, struct_of, no_more, text, texts, numbers, struct, struct_or_none, boxed, structs, branches, string_table, unread, ends, branch}
 use Rattle.ix_message.specs.Reading.{number_of}
-use Rattle.ix_message.specs.Names.{Datum, the_number, the_text, kind_in, number_for, branches_map, option_with, numbered, parts_numbered, text_in, branch_uses, option_uses, uses, part_uses, has_text, with_text, first_uses}
+use Rattle.ix_message.specs.Names.{Datum, the_number, the_text, kind_in, number_for, branches_map, option_with, numbered, parts_numbered}
 use Rattle.ix_message.specs.Records.{IsText, IsDatum, AreData, AreBranches, IfThere, IsRecord, AreParts}
-use Rattle.ix_message.specs.Layout.{Laid, Section, all_fit, elements_fit, text_laid, texts_laid, structs_laid, struct_laid, boxed_laid, option_laid, section_of, all_laid}
+use Rattle.ix_message.specs.Layout.{Section, all_fit, elements_fit, text_laid, texts_laid, structs_laid, boxed_laid, option_laid, section_of, all_laid}
 use Rattle.ix_message.proofs.Rows.{AreNumbers}
 use Rattle.ix_message.proofs.Wide.{data_slots, slots_of, tables, AreSections, IsRawText, AreRawBranches, IsRaw, AreRaw}
 
@@ -108,6 +106,7 @@ raw_option to section P Q raw (Some x) h fits = raw x h fits
 
 mutual
   unfolding IsRecord AreParts numbered parts_numbered section_of all_laid
+
   pub raw_value : (place : Text → ℕ) → IsNumbering place → (table : List Text) (s : Struct) → Proper s → (r : Value Datum s) → IsRecord place s r → all_fit (section_of table s (numbered place s r)).behind ≡ true → IsRaw s (numbered place s r)
   raw_value place few table (struct_of c fields ps) proper r h fits =
       (proper.0, raw_row place few (map (number_for place) r.0) fields r.0 h.0, raw_parts place few table ps proper.1 r.1 h.1 fits, proper.2)

@@ -1,11 +1,10 @@
 -- Bytes that stand at a word of a segment.
-use Rattle.std.proofs.Common.{◌≡◌, ◌<◌, ◌≤◌, ◌+◌, ◌-◌, ◌*◌, ◌/◌, ◌%◌, ◌^◌, ℕ, zero, suc, List, [], ◌∷◌, ◌++◌, length, drop, take, replicate, map, true, false, refl, sym, ap, ◌∙◌, subst, arith, append_assoc, add-one, length-append, length-drop}
+use Rattle.std.proofs.Common.{◌≡◌, ◌<◌, ◌≤◌, ◌+◌, ◌-◌, ◌*◌, ◌/◌, ◌%◌, ◌^◌, ℕ, List, [], ◌∷◌, ◌++◌, length, drop, replicate, true, refl, sym, ap, ◌∙◌, arith, append_assoc, length-append}
 use Rattle.std.proofs.lemmas.List.{drop_at, drop-drop, length-replicate}
-use Rattle.std.proofs.lemmas.Bool.{le-leb, lt-ltb}
-use Rattle.std.specs.Prelude.{Bool, nat_lt, nat_le, ◌&&◌}
+use Rattle.std.proofs.lemmas.Bool.{le-leb}
 use Rattle.byteorder.specs.Endian.{little_bytes, little_number}
 use Rattle.byteorder.specs.Numbers.{little_number-reads_back, length-bytes_low_first}
-use Rattle.ix_frame.specs.Segments.{word_at, has_words, segment_at}
+use Rattle.ix_frame.specs.Segments.{word_at, has_words}
 use Rattle.ix_message.specs.Layout.{padded, number_bytes}
 
 pub record Stands (S : List ℕ) (p : ℕ) (B : List ℕ) : Type 0 where

@@ -1,15 +1,15 @@
 -- The string table of a record: its texts, and its place in the file.
-use Rattle.std.proofs.Common.{◌≡◌, ◌<◌, ◌≤◌, ◌+◌, ◌-◌, ◌*◌, ◌/◌, ◌%◌, ◌^◌, ℕ, zero, suc, List, [], ◌∷◌, ◌++◌, length, map, Bool, true, false, cond, refl, sym, ap, ◌∙◌, subst, arith, length-append, add-one}
+use Rattle.std.proofs.Common.{◌≡◌, ◌<◌, ◌≤◌, ◌+◌, ◌*◌, ℕ, zero, suc, List, [], ◌∷◌, ◌++◌, length, map, Bool, true, false, cond, refl, sym, ap, subst, arith, length-append}
 use Rattle.std.specs.Prelude.{Option, Some, None, ◌&&◌}
 use Rattle.std.specs.List.{flat_map, AllByRecursion}
 use Rattle.std.proofs.lemmas.List.{length-map}
 use Rattle.std.proofs.lemmas.List.Concat.{flat_map-cons}
-use Rattle.ix_message.specs.Shape.{Text, Kind, Field, Struct, Pointers, Branches, Value, Parts, number, flag, nothing, choice, name, index, site_of_tile, port_of_owner, bus_tag, bus_bit, instance_of_cell, by_tag, struct_of, no_more, text, texts, numbers, struct, struct_or_none, boxed, structs, branches, string_table, unread, ends, branch}
+use Rattle.ix_message.specs.Shape.{Text, Kind, Field, Struct, Pointers, Branches, Value, Parts, name, struct_of, no_more, text, texts, numbers, struct, struct_or_none, boxed, structs, branches, string_table, unread, ends, branch}
 use Rattle.ix_message.specs.Reading.{table_slot}
 use Rattle.ix_message.specs.Names.{Datum, the_number, the_text, kind_in, same_text, number_for, text_in, branch_uses, option_uses, uses, part_uses, has_text, with_text, first_uses, place_in}
 use Rattle.ix_message.specs.Records.{IsText, IsDatum, AreData, AreBranches, IfThere, IsRecord, AreParts}
-use Rattle.ix_message.specs.Layout.{Laid, Section, objects, all_fit, pointer_section, text_laid, texts_laid, all_laid}
-use Rattle.ix_message.proofs.Whole.{words, Whole, AllWhole, HasPointers, HasPointer, first_pointer, other_pointers, length-pointer_section}
+use Rattle.ix_message.specs.Layout.{Laid, objects, all_fit, pointer_section, text_laid, texts_laid, all_laid}
+use Rattle.ix_message.proofs.Whole.{words, AllWhole, HasPointers, HasPointer, first_pointer, other_pointers, length-pointer_section}
 use Rattle.ix_message.proofs.Wide.{tables}
 
 -- ---- the texts of a record
@@ -43,8 +43,8 @@ branch_texts : (place : Text → ℕ) (fields : List Field) (b : Branches (List 
 branch_texts place fields ends h = tt
 branch_texts place fields (branch row below beside) h =
     AreTexts-append (flat_map text_in row ++ branch_uses below) (branch_uses beside)
-        (AreTexts-append (flat_map text_in row) (branch_uses below) (data_texts (map (number_for place) row) fields row h.0) (branch_texts place fields below h.1))
-        (branch_texts place fields beside h.2)
+    (AreTexts-append (flat_map text_in row) (branch_uses below) (data_texts (map (number_for place) row) fields row h.0) (branch_texts place fields below h.1))
+    (branch_texts place fields beside h.2)
 
 option_texts : {A : Type 0} (P : A → Type 0) (use_of : A → List Text) → ((x : A) → P x → AreTexts (use_of x)) → (o : Option A) → IfThere P o → AreTexts (option_uses use_of o)
 option_texts P use_of each None h = tt
@@ -52,6 +52,7 @@ option_texts P use_of each (Some x) h = each x h
 
 mutual
   unfolding IsRecord AreParts uses part_uses
+
   pub record_texts : (place : Text → ℕ) (s : Struct) (r : Value Datum s) → IsRecord place s r → AreTexts (uses s r)
   record_texts place (struct_of c fields ps) r h =
       AreTexts-append (flat_map text_in r.0) (part_uses ps r.1) (data_texts (map (number_for place) r.0) fields r.0 h.0) (part_texts place ps r.1 h.1)
@@ -72,9 +73,9 @@ mutual
 with_text-texts : (table : List Text) (t : Text) → AreTexts table → IsText t → AreTexts (with_text table t)
 with_text-texts table t a h = go (has_text table t)
   where
-  go : (b : Bool) → AreTexts (cond b table (table ++ t ∷ []))
-  go true = a
-  go false = AreTexts-append table (t ∷ []) a (h, tt)
+    go : (b : Bool) → AreTexts (cond b table (table ++ t ∷ []))
+    go true = a
+    go false = AreTexts-append table (t ∷ []) a (h, tt)
 
 pub first_uses-texts : (before ts : List Text) → AreTexts before → AreTexts ts → AreTexts (first_uses before ts)
 unfolding first_uses
@@ -88,9 +89,9 @@ unfolding place_in
 place-bound [] t = omega arith
 place-bound (x ∷ xs) t = go (same_text x t) (place-bound xs t)
   where
-  go : (b : Bool) → place_in xs t ≤ length xs → cond b 0 (place_in xs t + 1) ≤ suc (length xs)
-  go true le = omega arith
-  go false le = omega (arith, le)
+    go : (b : Bool) → place_in xs t ≤ length xs → cond b 0 (place_in xs t + 1) ≤ suc (length xs)
+    go true le = omega arith
+    go false le = omega (arith, le)
 
 pub texts_long : (ts : List Text) → 8 * length ts ≤ length (texts_laid ts).object
 unfolding texts_laid

@@ -1,13 +1,13 @@
 -- The sizes of what is laid out for a value.
-use Rattle.std.proofs.Common.{◌≡◌, ◌<◌, ◌≤◌, ◌+◌, ◌-◌, ◌*◌, ◌/◌, ◌%◌, ◌^◌, ℕ, zero, suc, List, [], ◌∷◌, ◌++◌, length, map, true, false, refl, sym, ap, ◌∙◌, subst, arith, length-append}
+use Rattle.std.proofs.Common.{◌≡◌, ◌<◌, ◌+◌, ◌-◌, ◌/◌, ◌^◌, ℕ, suc, List, [], ◌∷◌, ◌++◌, length, map, true, refl, ap, ◌∙◌}
 use Rattle.std.specs.Prelude.{Option, Some, None}
 use Rattle.std.specs.List.{AllByRecursion}
 use Rattle.std.specs.Str.{is_utf8}
-use Rattle.ix_message.specs.Shape.{Text, Kind, Field, Struct, Pointers, Branches, Value, Parts, struct_of, no_more, text, texts, numbers, struct, struct_or_none, boxed, structs, branches, string_table, unread, ends, branch}
+use Rattle.ix_message.specs.Shape.{Text, Field, Struct, Pointers, Branches, Value, Parts, struct_of, no_more, text, texts, numbers, struct, struct_or_none, boxed, structs, branches, string_table, unread, ends, branch}
 use Rattle.ix_message.specs.Records.{IfThere}
-use Rattle.ix_message.specs.Layout.{Laid, Section, padded, number_bytes, data_section, pointer_section, objects, section_bytes, section_words, text_laid, texts_laid, numbers_laid, struct_laid, structs_laid, branch_sections, boxed_laid, option_laid, section_of, all_laid}
+use Rattle.ix_message.specs.Layout.{Laid, Section, number_bytes, pointer_section, objects, section_bytes, text_laid, texts_laid, numbers_laid, struct_laid, structs_laid, branch_sections, boxed_laid, option_laid, section_of, all_laid}
 use Rattle.ix_message.proofs.Rows.{AreNumbers}
-use Rattle.ix_message.proofs.Whole.{words, Whole, whole_by, whole-append, whole-padded, AllWhole, whole-objects, length-pointer_section, words-data_section, IsWide, length-section_bytes, whole-structs_laid}
+use Rattle.ix_message.proofs.Whole.{Whole, whole_by, whole-append, whole-padded, AllWhole, whole-objects, length-pointer_section, words-data_section, IsWide, length-section_bytes, whole-structs_laid}
 
 abbrev pub data_slots : List Field → ℕ
 data_slots fields = (length fields + 1) / 2
@@ -140,13 +140,15 @@ whole-boxed d p (e ∷ es) h = whole-struct 0 1 (record { data_bytes = []; behin
 pub branches_wide : (fields : List Field) (b : Branches (List ℕ)) → AreRawBranches fields b → AllByRecursion (IsWide (data_slots fields) 1) (branch_sections b)
 unfolding branch_sections
 branches_wide fields ends h = tt
-branches_wide fields (branch row below beside) h =
-    (record {
-      row = whole-padded (number_bytes row);
-      words_is = words-data_section row ∙ ap (λ (k : ℕ). (k + 1) / 2) (length-row fields row h.0);
-      pointers_is = refl;
-      behind = one_whole (structs_laid (branch_sections below)) (whole-structs_laid (data_slots fields) 1 (branch_sections below) (branches_wide fields below h.1));
-    }, branches_wide fields beside h.2)
+branches_wide fields (branch row below beside) h = (
+  record {
+    row = whole-padded (number_bytes row);
+    words_is = words-data_section row ∙ ap (λ (k : ℕ). (k + 1) / 2) (length-row fields row h.0);
+    pointers_is = refl;
+    behind = one_whole (structs_laid (branch_sections below)) (whole-structs_laid (data_slots fields) 1 (branch_sections below) (branches_wide fields below h.1));
+  },
+  branches_wide fields beside h.2,
+)
 
 pub whole-option : {A : Type 0} (d p : ℕ) (section : A → Section) (P : A → Type 0) → ((x : A) → P x → IsWide d p (section x)) → (o : Option A) → IfThere P o → Whole (option_laid section o).object
 whole-option d p section P wide None h = nothing_whole
@@ -154,6 +156,7 @@ whole-option d p section P wide (Some x) h = whole-struct d p (section x) (wide 
 
 mutual
   unfolding section_of all_laid
+
   pub section_wide : (table : List Text) (s : Struct) (v : Value ℕ s) → IsRaw s v → IsWide (struct_data s) (struct_slots s) (section_of table s v)
   section_wide table (struct_of c fields ps) v h = record {
     row = whole-padded (number_bytes v.0);

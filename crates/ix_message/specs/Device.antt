@@ -1,6 +1,6 @@
 -- The device resources: each struct with its fields, the inner structs first.
-use Rattle.std.specs.Prelude.{ℕ, List, [], ◌∷◌}
-use Rattle.ix_message.specs.Shape.{Struct, Field, field, number, flag, nothing, choice, name, index, site_of_tile, by_tag, struct_of, no_more, text, texts, numbers, struct, struct_or_none, structs, string_table, unread, nowhere, site_types, tile_types, wires, bel_pins, tile_wires}
+use Rattle.std.specs.Prelude.{ℕ, [], ◌∷◌}
+use Rattle.ix_message.specs.Shape.{Struct, field, number, flag, nothing, choice, name, index, site_of_tile, by_tag, struct_of, no_more, text, texts, numbers, struct, struct_or_none, structs, string_table, unread, nowhere, site_types, tile_types, wires, bel_pins, tile_wires}
 
 -- input, output, inout
 abbrev pub directions : ℕ

@@ -1,10 +1,10 @@
 -- The first index, tag, enumerant or string number of a message that is out of its list, in reading order, and where
 -- it stands.
 use Prim.Native.String.{String}
-use Rattle.std.specs.Prelude.{ℕ, ◌+◌, ◌-◌, List, [], ◌∷◌, ◌++◌, length, map, max, Bool, true, false, ◌&&◌, ◌||◌, nat_lt, ◌==◌, codes, Option, Some, None, if◌then◌else◌, slice_index, slice_index_or}
+use Rattle.std.specs.Prelude.{ℕ, ◌+◌, ◌-◌, List, [], ◌∷◌, ◌++◌, length, map, Bool, true, false, ◌&&◌, ◌||◌, nat_lt, ◌==◌, codes, Option, Some, None, if◌then◌else◌, slice_index, slice_index_or}
 use Rattle.std.specs.List.{flat_map, list_any, count_by}
 use Rattle.ix_message.specs.Shape.{Text, Target, Kind, Field, Struct, Pointers, Branches, Value, Parts, nowhere, strings, site_types, tile_types, wires, bel_pins, tile_wires, cell_decls, ports, instances, number, flag, nothing, choice, name, index, site_of_tile, port_of_owner, bus_tag, bus_bit, instance_of_cell, by_tag, struct_of, no_more, text, texts, numbers, struct, struct_or_none, boxed, structs, branches, string_table, unread, ends, branch}
-use Rattle.ix_message.specs.Names.{same_text, option_with}
+use Rattle.ix_message.specs.Names.{same_text}
 
 -- What an index may ask of a struct: its numbers, and of its pointers, in slot order, the numbers of a list of numbers
 -- and the length of a list of structs.
@@ -59,8 +59,15 @@ pub record Lists : Type 0 where
 
 abbrev pub only_table : ℕ → Lists
 only_table n = record {
-  table = n; site_type_list = []; tile_type_list = []; wire_list = []; bel_pin_list = []; tile_wire_list = [];
-  cell_decl_list = []; port_list = []; instance_list = [];
+  table = n;
+  site_type_list = [];
+  tile_type_list = [];
+  wire_list = [];
+  bel_pin_list = [];
+  tile_wire_list = [];
+  cell_decl_list = [];
+  port_list = [];
+  instance_list = [];
 }
 
 abbrev pub with_list : Target → List Entry → Lists → Lists

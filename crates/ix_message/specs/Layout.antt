@@ -2,7 +2,7 @@
 -- each with its whole content before the next, and after a list's elements the objects of each element in turn.
 use Rattle.std.specs.Prelude.{ℕ, ◌+◌, ◌-◌, ◌*◌, ◌/◌, ◌%◌, ◌^◌, List, [], ◌∷◌, ◌++◌, length, map, replicate, Bool, true, ◌&&◌, nat_lt, Option, Some, None}
 use Rattle.byteorder.specs.Endian.{little_bytes}
-use Rattle.ix_message.specs.Shape.{Text, Kind, Field, Struct, Pointers, Branches, Value, Parts, struct_of, no_more, text, texts, numbers, struct, struct_or_none, boxed, structs, branches, string_table, unread, ends, branch}
+use Rattle.ix_message.specs.Shape.{Text, Struct, Pointers, Branches, Value, Parts, struct_of, no_more, text, texts, numbers, struct, struct_or_none, boxed, structs, branches, string_table, unread, ends, branch}
 
 -- bytes, and zero bytes to a whole word
 abbrev pub padded : List ℕ → List ℕ

@@ -1,6 +1,6 @@
 -- The logical netlist: each struct with its fields, the inner structs first.
-use Rattle.std.specs.Prelude.{List, [], ◌∷◌}
-use Rattle.ix_message.specs.Shape.{Struct, Field, field, number, flag, nothing, choice, name, index, port_of_owner, bus_tag, bus_bit, instance_of_cell, by_tag, struct_of, no_more, text, numbers, struct, boxed, structs, string_table, nowhere, cell_decls, ports, instances}
+use Rattle.std.specs.Prelude.{[], ◌∷◌}
+use Rattle.ix_message.specs.Shape.{Struct, field, number, flag, nothing, choice, name, index, port_of_owner, bus_tag, bus_bit, instance_of_cell, by_tag, struct_of, no_more, text, numbers, struct, boxed, structs, string_table, nowhere, cell_decls, ports, instances}
 
 -- tag: a text value, an integer value, a Bool value
 abbrev pub entry : Struct

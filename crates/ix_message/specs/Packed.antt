@@ -1,6 +1,6 @@
 -- The packed design, this project's own message: each struct with its fields, the inner structs first.
-use Rattle.std.specs.Prelude.{List, [], ◌∷◌}
-use Rattle.ix_message.specs.Shape.{Struct, Field, field, name, struct_of, no_more, structs, string_table, nowhere}
+use Rattle.std.specs.Prelude.{[], ◌∷◌}
+use Rattle.ix_message.specs.Shape.{Struct, field, name, struct_of, no_more, structs, string_table, nowhere}
 
 abbrev pub packed_cell : Struct
 packed_cell = struct_of "PackedCell" (field "cell" name ∷ field "bel" name ∷ []) no_more

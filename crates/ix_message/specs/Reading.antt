@@ -1,10 +1,10 @@
 -- Reading a message of any form from a frame: the first frame fault in reading order, or the numbers as they stand.
-use Rattle.std.specs.Prelude.{ℕ, zero, suc, ◌+◌, ◌%◌, ◌^◌, List, [], ◌∷◌, Option, Some, None, Result, Ok, Err, if◌then◌else◌}
+use Rattle.std.specs.Prelude.{ℕ, zero, suc, ◌+◌, ◌%◌, ◌^◌, List, [], ◌∷◌, Option, Some, None, Result, Ok, if◌then◌else◌}
 use Rattle.ix_num.specs.declared.fault.FrameFault.{FrameFault}
 use Rattle.ix_frame.specs.Result.{◌>>=◌}
 use Rattle.ix_frame.specs.Objects.{u32_in, text_at, struct_at, elements_at, list_at, has_pointer, element_of, numbers_in, text_in}
 use Rattle.ix_frame.specs.Target.{Object, Elements}
-use Rattle.ix_message.specs.Shape.{Text, Kind, Field, Struct, Pointers, Branches, Value, Parts, number, flag, nothing, choice, name, index, site_of_tile, port_of_owner, bus_tag, bus_bit, instance_of_cell, by_tag, struct_of, no_more, text, texts, numbers, struct, struct_or_none, boxed, structs, branches, string_table, unread, ends, branch}
+use Rattle.ix_message.specs.Shape.{Text, Kind, Field, Struct, Pointers, Branches, Value, Parts, flag, choice, bus_tag, struct_of, no_more, text, texts, numbers, struct, struct_or_none, boxed, structs, branches, string_table, unread, ends, branch}
 
 abbrev pub Reads : Type 0 → Type 0
 Reads A = Result (A × ℕ) FrameFault
@@ -86,8 +86,8 @@ unfoldable mutual
     Ok ((here.0, rest.0), rest.1)
   parts_at (struct_or_none called s ps) slot o budget = do
     here ← if has_pointer o slot
-      then some_of (struct_at o slot budget >>= λ inner. value_at s inner.0 inner.1)
-      else Ok (None, budget)
+        then some_of (struct_at o slot budget >>= λ inner. value_at s inner.0 inner.1)
+        else Ok (None, budget)
     rest ← parts_at ps (slot + 1) o here.1
     Ok ((here.0, rest.0), rest.1)
   parts_at (boxed called kind inner s ps) slot o budget = do

@@ -1,9 +1,9 @@
 -- Files that were worked out by hand or written by another program, to try the definitions on.
 use Prim.Native.String.{String}
-use Rattle.std.specs.Prelude.{ℕ, List, [], ◌∷◌, codes, Option, Some, None}
+use Rattle.std.specs.Prelude.{ℕ, List, [], ◌∷◌, codes, Some}
 use Rattle.std.specs.List.{flat_map}
 use Rattle.byteorder.specs.Endian.{little_bytes}
-use Rattle.ix_message.specs.Shape.{Value, Branches, ends, branch}
+use Rattle.ix_message.specs.Shape.{Value, ends, branch}
 use Rattle.ix_message.specs.Names.{Datum, the_number, the_text}
 use Rattle.ix_message.specs.Device.{device}
 use Rattle.ix_message.specs.Netlist.{netlist}
@@ -27,9 +27,31 @@ small_file = file_of (
     0x700000005 ∷ 0 ∷ 4 ∷ [])
 
 abbrev pub small_record : Value Datum netlist
-small_record =
-    ([], ([], ([], (((name "" ∷ plain 0 ∷ []), ([], tt)), ((((name "" ∷ []), ([], tt)) ∷ []), ([], ([], ([],
-    tt))))))))
+small_record = (
+  [],
+  (
+    [],
+    (
+      [],
+      (
+        ((name "" ∷ plain 0 ∷ []), ([], tt)),
+        (
+          (((name "" ∷ []), ([], tt)) ∷ []),
+          (
+            [],
+            (
+              [],
+              (
+                [],
+                tt,
+              ),
+            ),
+          ),
+        ),
+      ),
+    ),
+  ),
+)
 
 -- The physical netlist without anything.
 abbrev pub empty_file : List ℕ
@@ -58,14 +80,65 @@ pair_file = file_of (
     1 ∷ [])
 
 abbrev pub pair_record : Value Datum netlist
-pair_record =
-    ([], ((codes "row5"), ([], (((name "top" ∷ plain 0 ∷ []), ([], tt)), ((((name "top" ∷ []), ([], tt)) ∷ ((name
-    "DRV" ∷ []), ((plain 0 ∷ []), tt)) ∷ ((name "LOAD" ∷ []), ((plain 1 ∷ []), tt)) ∷ []), ((((name "O" ∷ plain 1 ∷
-    plain 0 ∷ plain 0 ∷ plain 0 ∷ []), ([], tt)) ∷ ((name "I" ∷ plain 0 ∷ plain 0 ∷ plain 0 ∷ plain 0 ∷ []), ([],
-    tt)) ∷ []), ((((name "d0" ∷ plain 1 ∷ []), ([], tt)) ∷ ((name "e0" ∷ plain 2 ∷ []), ([], tt)) ∷ []), ((((plain 0
-    ∷ []), ((plain 0 ∷ plain 1 ∷ []), ((((name "n0" ∷ []), ((((plain 0 ∷ plain 0 ∷ plain 0 ∷ plain 1 ∷ plain 0 ∷
-    []), tt) ∷ ((plain 1 ∷ plain 0 ∷ plain 0 ∷ plain 1 ∷ plain 1 ∷ []), tt) ∷ []), tt)) ∷ []), tt))) ∷ []),
-    tt))))))))
+pair_record = (
+  [],
+  (
+    (codes "row5"),
+    (
+      [],
+      (
+        ((name "top" ∷ plain 0 ∷ []), ([], tt)),
+        (
+          (((name "top" ∷ []), ([], tt)) ∷ (
+            (name
+                "DRV" ∷ []),
+            ((plain 0 ∷ []), tt),
+          ) ∷ ((name "LOAD" ∷ []), ((plain 1 ∷ []), tt)) ∷ []),
+          (
+            ((
+              (name "O" ∷ plain 1 ∷
+                  plain 0 ∷ plain 0 ∷ plain 0 ∷ []),
+              ([], tt),
+            ) ∷ (
+              (name "I" ∷ plain 0 ∷ plain 0 ∷ plain 0 ∷ plain 0 ∷ []),
+              (
+                [],
+                tt,
+              ),
+            ) ∷ []),
+            (
+              (((name "d0" ∷ plain 1 ∷ []), ([], tt)) ∷ ((name "e0" ∷ plain 2 ∷ []), ([], tt)) ∷ []),
+              (
+                ((
+                  (plain 0
+                      ∷ []),
+                  (
+                    (plain 0 ∷ plain 1 ∷ []),
+                    (
+                      ((
+                        (name "n0" ∷ []),
+                        (
+                          ((
+                            (plain 0 ∷ plain 0 ∷ plain 0 ∷ plain 1 ∷ plain 0 ∷
+                                []),
+                            tt,
+                          ) ∷ ((plain 1 ∷ plain 0 ∷ plain 0 ∷ plain 1 ∷ plain 1 ∷ []), tt) ∷ []),
+                          tt,
+                        ),
+                      ) ∷ []),
+                      tt,
+                    ),
+                  ),
+                ) ∷ []),
+                tt,
+              ),
+            ),
+          ),
+        ),
+      ),
+    ),
+  ),
+)
 
 -- A bus, a net on one of its bits, and properties of the three kinds.
 abbrev pub bus_file : List ℕ
@@ -81,12 +154,51 @@ bus_file = file_of (
     0x1f00000001 ∷ 0x300000004 ∷ 0x100000000 ∷ 3 ∷ 0 ∷ [])
 
 abbrev pub bus_record : Value Datum netlist
-bus_record =
-    ([], ((codes "p"), ((((name "a" ∷ plain 0 ∷ name "x" ∷ []), tt) ∷ ((name "b" ∷ plain 1 ∷ plain 7 ∷ []), tt) ∷
-    ((name "a" ∷ plain 2 ∷ plain 1 ∷ []), tt) ∷ []), (((name "top" ∷ plain 0 ∷ []), ([], tt)), ((((name "top" ∷ []),
-    ((plain 0 ∷ []), tt)) ∷ []), ((((name "in" ∷ plain 0 ∷ plain 1 ∷ plain 3 ∷ plain 0 ∷ []), ([], tt)) ∷ []), ([],
-    ((((plain 0 ∷ []), ([], ((((name "n" ∷ []), ((((plain 0 ∷ plain 1 ∷ plain 3 ∷ plain 0 ∷ plain 0 ∷ []), tt) ∷
-    []), tt)) ∷ []), tt))) ∷ []), tt))))))))
+bus_record = (
+  [],
+  (
+    (codes "p"),
+    (
+      (((name "a" ∷ plain 0 ∷ name "x" ∷ []), tt) ∷ ((name "b" ∷ plain 1 ∷ plain 7 ∷ []), tt) ∷
+          ((name "a" ∷ plain 2 ∷ plain 1 ∷ []), tt) ∷ []),
+      (
+        ((name "top" ∷ plain 0 ∷ []), ([], tt)),
+        (
+          ((
+            (name "top" ∷ []),
+            ((plain 0 ∷ []), tt),
+          ) ∷ []),
+          (
+            (((name "in" ∷ plain 0 ∷ plain 1 ∷ plain 3 ∷ plain 0 ∷ []), ([], tt)) ∷ []),
+            (
+              [],
+              (
+                ((
+                  (plain 0 ∷ []),
+                  (
+                    [],
+                    (
+                      ((
+                        (name "n" ∷ []),
+                        (
+                          (((plain 0 ∷ plain 1 ∷ plain 3 ∷ plain 0 ∷ plain 0 ∷ []), tt) ∷
+                              []),
+                          tt,
+                        ),
+                      ) ∷ []),
+                      tt,
+                    ),
+                  ),
+                ) ∷ []),
+                tt,
+              ),
+            ),
+          ),
+        ),
+      ),
+    ),
+  ),
+)
 
 -- A device of one tile with two site types and a node that joins their pins.
 abbrev pub tile_file : List ℕ
@@ -123,24 +235,155 @@ tile_file = file_of (
     0 ∷ 0 ∷ [])
 
 abbrev pub tile_record : Value Datum device
-tile_record =
-    ([], ((codes "M5"), ((((name "SRC" ∷ []), ((((name "O" ∷ plain 1 ∷ name "OB" ∷ []), tt) ∷ ((name "O" ∷ plain 0 ∷
-    name "O" ∷ []), tt) ∷ []), ((((name "O" ∷ plain 1 ∷ plain 1 ∷ []), tt) ∷ []), ((((name "OB" ∷ plain 0 ∷ plain 0
-    ∷ plain 0 ∷ plain 0 ∷ []), tt) ∷ ((name "O" ∷ plain 2 ∷ plain 0 ∷ plain 0 ∷ plain 0 ∷ []), tt) ∷ []), ([],
-    ((((name "O" ∷ []), ((plain 0 ∷ plain 1 ∷ []), tt)) ∷ []), tt)))))) ∷ ((name "SNK" ∷ []), ((((name "I" ∷ plain 0
-    ∷ name "IB" ∷ []), tt) ∷ ((name "I" ∷ plain 1 ∷ name "I" ∷ []), tt) ∷ []), ((((name "I" ∷ plain 0 ∷ plain 1 ∷
-    []), tt) ∷ []), ((((name "IB" ∷ plain 0 ∷ plain 0 ∷ plain 0 ∷ plain 0 ∷ []), tt) ∷ ((name "I" ∷ plain 2 ∷ plain
-    0 ∷ plain 0 ∷ plain 0 ∷ []), tt) ∷ []), ([], ((((name "I" ∷ []), ((plain 1 ∷ plain 0 ∷ []), tt)) ∷ []), tt))))))
-    ∷ []), ((((name "MT" ∷ []), ((((plain 0 ∷ []), ((name "S0" ∷ []), tt)) ∷ ((plain 0 ∷ []), ((name "S1" ∷ []),
-    tt)) ∷ ((plain 1 ∷ []), ((name "T0" ∷ []), tt)) ∷ ((plain 1 ∷ []), ((name "T1" ∷ []), tt)) ∷ []), ((name "S0" ∷
-    name "S1" ∷ name "T0" ∷ name "T1" ∷ []), ([], ([], tt))))) ∷ []), ((((name "M0" ∷ plain 0 ∷ plain 0 ∷ plain 0 ∷
-    []), ((((name "s0" ∷ plain 0 ∷ []), tt) ∷ ((name "s1" ∷ plain 1 ∷ []), tt) ∷ ((name "t0" ∷ plain 2 ∷ []), tt) ∷
-    ((name "t1" ∷ plain 3 ∷ []), tt) ∷ []), tt)) ∷ []), ((((name "M0" ∷ name "S0" ∷ []), tt) ∷ ((name "M0" ∷ name
-    "T0" ∷ []), tt) ∷ []), ((([], ((plain 0 ∷ plain 1 ∷ []), tt)) ∷ []), ((((name "DRV" ∷ []), ((([], ((((name "SRC"
-    ∷ []), ((name "OB" ∷ []), tt)) ∷ []), ((((name "O" ∷ name "O" ∷ []), tt) ∷ []), tt))) ∷ []), tt)) ∷ ((name
-    "LOAD" ∷ []), ((([], ((((name "SNK" ∷ []), ((name "IB" ∷ []), tt)) ∷ []), ((((name "I" ∷ name "I" ∷ []), tt) ∷
-    []), tt))) ∷ []), tt)) ∷ []), ([], ((Some ((name "GND" ∷ name "G" ∷ name "VCC" ∷ name "P" ∷ []), ([], ([],
-    tt)))), (([], ([], ([], tt))), tt)))))))))))
+tile_record = (
+  [],
+  (
+    (codes "M5"),
+    (
+      ((
+        (name "SRC" ∷ []),
+        (
+          (((name "O" ∷ plain 1 ∷ name "OB" ∷ []), tt) ∷ (
+            (name "O" ∷ plain 0 ∷
+                name "O" ∷ []),
+            tt,
+          ) ∷ []),
+          (
+            (((name "O" ∷ plain 1 ∷ plain 1 ∷ []), tt) ∷ []),
+            (
+              ((
+                (name "OB" ∷ plain 0 ∷ plain 0
+                    ∷ plain 0 ∷ plain 0 ∷ []),
+                tt,
+              ) ∷ ((name "O" ∷ plain 2 ∷ plain 0 ∷ plain 0 ∷ plain 0 ∷ []), tt) ∷ []),
+              (
+                [],
+                ((((name "O" ∷ []), ((plain 0 ∷ plain 1 ∷ []), tt)) ∷ []), tt),
+              ),
+            ),
+          ),
+        ),
+      ) ∷ (
+        (name "SNK" ∷ []),
+        (
+          ((
+            (name "I" ∷ plain 0
+                ∷ name "IB" ∷ []),
+            tt,
+          ) ∷ ((name "I" ∷ plain 1 ∷ name "I" ∷ []), tt) ∷ []),
+          (
+            ((
+              (name "I" ∷ plain 0 ∷ plain 1 ∷
+                  []),
+              tt,
+            ) ∷ []),
+            (
+              (((name "IB" ∷ plain 0 ∷ plain 0 ∷ plain 0 ∷ plain 0 ∷ []), tt) ∷ (
+                (name "I" ∷ plain 2 ∷ plain
+                    0 ∷ plain 0 ∷ plain 0 ∷ []),
+                tt,
+              ) ∷ []),
+              ([], ((((name "I" ∷ []), ((plain 1 ∷ plain 0 ∷ []), tt)) ∷ []), tt)),
+            ),
+          ),
+        ),
+      )
+          ∷ []),
+      (
+        ((
+          (name "MT" ∷ []),
+          (
+            (((plain 0 ∷ []), ((name "S0" ∷ []), tt)) ∷ (
+              (plain 0 ∷ []),
+              (
+                (name "S1" ∷ []),
+                tt,
+              ),
+            ) ∷ ((plain 1 ∷ []), ((name "T0" ∷ []), tt)) ∷ ((plain 1 ∷ []), ((name "T1" ∷ []), tt)) ∷ []),
+            (
+              (name "S0" ∷
+                  name "S1" ∷ name "T0" ∷ name "T1" ∷ []),
+              ([], ([], tt)),
+            ),
+          ),
+        ) ∷ []),
+        (
+          ((
+            (name "M0" ∷ plain 0 ∷ plain 0 ∷ plain 0 ∷
+                []),
+            (
+              (((name "s0" ∷ plain 0 ∷ []), tt) ∷ ((name "s1" ∷ plain 1 ∷ []), tt) ∷ ((name "t0" ∷ plain 2 ∷ []), tt) ∷
+                  ((name "t1" ∷ plain 3 ∷ []), tt) ∷ []),
+              tt,
+            ),
+          ) ∷ []),
+          (
+            (((name "M0" ∷ name "S0" ∷ []), tt) ∷ (
+              (name "M0" ∷ name
+                  "T0" ∷ []),
+              tt,
+            ) ∷ []),
+            (
+              (([], ((plain 0 ∷ plain 1 ∷ []), tt)) ∷ []),
+              (
+                ((
+                  (name "DRV" ∷ []),
+                  (
+                    ((
+                      [],
+                      (
+                        ((
+                          (name "SRC"
+                              ∷ []),
+                          ((name "OB" ∷ []), tt),
+                        ) ∷ []),
+                        ((((name "O" ∷ name "O" ∷ []), tt) ∷ []), tt),
+                      ),
+                    ) ∷ []),
+                    tt,
+                  ),
+                ) ∷ (
+                  (name
+                      "LOAD" ∷ []),
+                  (
+                    ((
+                      [],
+                      (
+                        (((name "SNK" ∷ []), ((name "IB" ∷ []), tt)) ∷ []),
+                        (
+                          (((name "I" ∷ name "I" ∷ []), tt) ∷
+                              []),
+                          tt,
+                        ),
+                      ),
+                    ) ∷ []),
+                    tt,
+                  ),
+                ) ∷ []),
+                (
+                  [],
+                  (
+                    (Some (
+                      (name "GND" ∷ name "G" ∷ name "VCC" ∷ name "P" ∷ []),
+                      (
+                        [],
+                        (
+                          [],
+                          tt,
+                        ),
+                      ),
+                    )),
+                    (([], ([], ([], tt))), tt),
+                  ),
+                ),
+              ),
+            ),
+          ),
+        ),
+      ),
+    ),
+  ),
+)
 
 -- The pair placed and routed on that device, and branches of each kind.
 abbrev pub routed_file : List ℕ
@@ -164,16 +407,62 @@ routed_file = file_of (
     0x100000004 ∷ 0x1200000011 ∷ [])
 
 abbrev pub routed_record : Value Datum phys_netlist
-routed_record =
-    ([], ((codes "M5"), ((((name "d0" ∷ name "DRV" ∷ name "s0" ∷ name "OB" ∷ []), ((((name "O" ∷ name "OB" ∷ name
-    "O" ∷ []), tt) ∷ []), tt)) ∷ ((name "e0" ∷ name "LOAD" ∷ name "t0" ∷ name "IB" ∷ []), ((((name "I" ∷ name "IB" ∷
-    name "I" ∷ []), tt) ∷ []), tt)) ∷ []), ((((name "n0" ∷ plain 0 ∷ []), ((branch (plain 0 ∷ name "s0" ∷ name "OB"
-    ∷ name "O" ∷ plain 0 ∷ []) (branch (plain 1 ∷ name "s0" ∷ name "O" ∷ plain 0 ∷ plain 0 ∷ []) (branch (plain 1 ∷
-    name "t0" ∷ name "I" ∷ plain 0 ∷ plain 0 ∷ []) (branch (plain 0 ∷ name "t0" ∷ name "IB" ∷ name "I" ∷ plain 0 ∷
-    []) ends ends) ends) ends) ends), ((branch (plain 2 ∷ name "M0" ∷ name "S0" ∷ name "T0" ∷ plain 1 ∷ []) ends
-    (branch (plain 3 ∷ name "s0" ∷ name "X" ∷ name "I" ∷ plain 0 ∷ []) ends ends)), tt))) ∷ []), ((((name "s0" ∷
-    name "SRC" ∷ []), tt) ∷ ((name "t0" ∷ name "SNK" ∷ []), tt) ∷ []), ((((name "k" ∷ name "v" ∷ []), tt) ∷ []),
-    tt))))))
+routed_record = (
+  [],
+  (
+    (codes "M5"),
+    (
+      ((
+        (name "d0" ∷ name "DRV" ∷ name "s0" ∷ name "OB" ∷ []),
+        (
+          ((
+            (name "O" ∷ name "OB" ∷ name
+                "O" ∷ []),
+            tt,
+          ) ∷ []),
+          tt,
+        ),
+      ) ∷ (
+        (name "e0" ∷ name "LOAD" ∷ name "t0" ∷ name "IB" ∷ []),
+        (
+          ((
+            (name "I" ∷ name "IB" ∷
+                name "I" ∷ []),
+            tt,
+          ) ∷ []),
+          tt,
+        ),
+      ) ∷ []),
+      (
+        ((
+          (name "n0" ∷ plain 0 ∷ []),
+          (
+            (branch (plain 0 ∷ name "s0" ∷ name "OB"
+                ∷ name "O" ∷ plain 0 ∷ []) (branch (plain 1 ∷ name "s0" ∷ name "O" ∷ plain 0 ∷ plain 0 ∷ []) (branch (plain 1 ∷
+                name "t0" ∷ name "I" ∷ plain 0 ∷ plain 0 ∷ []) (branch (plain 0 ∷ name "t0" ∷ name "IB" ∷ name "I" ∷ plain 0 ∷
+                []) ends ends) ends) ends) ends),
+            (
+              (branch (plain 2 ∷ name "M0" ∷ name "S0" ∷ name "T0" ∷ plain 1 ∷ []) ends
+                  (branch (plain 3 ∷ name "s0" ∷ name "X" ∷ name "I" ∷ plain 0 ∷ []) ends ends)),
+              tt,
+            ),
+          ),
+        ) ∷ []),
+        (
+          ((
+            (name "s0" ∷
+                name "SRC" ∷ []),
+            tt,
+          ) ∷ ((name "t0" ∷ name "SNK" ∷ []), tt) ∷ []),
+          (
+            (((name "k" ∷ name "v" ∷ []), tt) ∷ []),
+            tt,
+          ),
+        ),
+      ),
+    ),
+  ),
+)
 
 -- The pair packed.
 abbrev pub clusters_file : List ℕ
@@ -185,9 +474,23 @@ clusters_file = file_of (
     0x500000004 ∷ [])
 
 abbrev pub clusters_record : Value Datum packed
-clusters_record =
-    ([], ((((name "SRC" ∷ []), ((((name "d0" ∷ name "OB" ∷ []), tt) ∷ []), tt)) ∷ ((name "SNK" ∷ []), ((((name "e0"
-    ∷ name "IB" ∷ []), tt) ∷ []), tt)) ∷ []), tt))
+clusters_record = (
+  [],
+  (
+    (((name "SRC" ∷ []), ((((name "d0" ∷ name "OB" ∷ []), tt) ∷ []), tt)) ∷ (
+      (name "SNK" ∷ []),
+      (
+        ((
+          (name "e0"
+              ∷ name "IB" ∷ []),
+          tt,
+        ) ∷ []),
+        tt,
+      ),
+    ) ∷ []),
+    tt,
+  ),
+)
 
 -- A device whose root pointer leads to itself.
 abbrev pub self_pointer : List ℕ

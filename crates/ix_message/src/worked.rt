@@ -17,8 +17,7 @@ pub fn written_files()
     ensures tile { encoding device tile_record ≡ tile_file }
     ensures routed { encoding phys_netlist routed_record ≡ routed_file }
     ensures clusters { encoding packed clusters_record ≡ clusters_file }
-{
-}
+{}
 
 /// Files are read as these records, or with these faults.
 pub fn read_files()
@@ -28,5 +27,4 @@ pub fn read_files()
     ensures points_at_itself { reading device self_pointer ≡ Err (frame (record { rule = F4; segment = 0; word = 0 })) }
     ensures cut { reading device [] ≡ Err (frame (record { rule = F1; segment = 0; word = 0 })) }
     ensures no_declaration { reading netlist no_declaration ≡ Err (out_of_list (record { kind = codes "CellInstance"; field = codes "cell"; index = 0 })) }
-{
-}
+{}

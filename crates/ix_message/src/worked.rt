@@ -7,7 +7,7 @@ ghost use Rattle.ix_message.specs.Device.{device};
 ghost use Rattle.ix_message.specs.Netlist.{netlist};
 ghost use Rattle.ix_message.specs.Phys.{phys_netlist};
 ghost use Rattle.ix_message.specs.Packed.{packed};
-ghost use Rattle.ix_message.specs.Worked.{file_of, small_file, small_record, empty_file, empty_record, pair_file, pair_record, bus_file, bus_record, tile_file, tile_record, routed_file, routed_record, clusters_file, clusters_record, self_pointer, no_declaration};
+ghost use Rattle.ix_message.specs.Worked.{file_of, small_file, small_record, empty_file, empty_record, pair_file, pair_record, bus_file, bus_record, tile_file, tile_record, whole_file, whole_record, routed_file, routed_record, clusters_file, clusters_record, self_pointer, no_declaration};
 
 /// Records are written as these files, which another program wrote too.
 pub fn written_files()
@@ -15,6 +15,7 @@ pub fn written_files()
     ensures pair { encoding netlist pair_record ≡ pair_file }
     ensures bus { encoding netlist bus_record ≡ bus_file }
     ensures tile { encoding device tile_record ≡ tile_file }
+    ensures whole { encoding device whole_record ≡ whole_file }
     ensures routed { encoding phys_netlist routed_record ≡ routed_file }
     ensures clusters { encoding packed clusters_record ≡ clusters_file }
 {}

@@ -28,3 +28,7 @@ returns-clause-routed c = refl
 pub returns-clause-clusters : goal.returns-clause-clusters
 unfolding numbered uses first_uses place_in pointer_section texts_laid numbers_laid element_sections structs_laid branch_sections section_of segment_for encoding
 returns-clause-clusters c = refl
+
+pub returns-clause-whole : goal.returns-clause-whole
+unfolding numbered uses first_uses place_in pointer_section texts_laid numbers_laid element_sections structs_laid branch_sections section_of segment_for encoding
+returns-clause-whole c = refl

@@ -1,9 +1,10 @@
 -- Files that were worked out by hand or written by another program, to try the definitions on.
 use Prim.Native.String.{String}
-use Rattle.std.specs.Prelude.{ℕ, List, [], ◌∷◌, codes, Some}
+use Rattle.std.specs.Prelude.{Option, ℕ, List, [], ◌∷◌, codes, Some}
 use Rattle.std.specs.List.{flat_map}
 use Rattle.byteorder.specs.Endian.{little_bytes}
 use Rattle.ix_message.specs.Shape.{Value, ends, branch}
+use Rattle.ix_message.specs.Indexes.{Item}
 use Rattle.ix_message.specs.Names.{Datum, the_number, the_text}
 use Rattle.ix_message.specs.Device.{device}
 use Rattle.ix_message.specs.Netlist.{netlist}
@@ -553,3 +554,22 @@ self_pointer = file_of (0x100000000 ∷ 0x10000fffffffc ∷ [])
 -- A design with a name in its string table and nothing else: its top instance has no declaration.
 abbrev pub no_declaration : List ℕ
 no_declaration = file_of (0x700000000 ∷ 0x4000000000000 ∷ 0 ∷ 0 ∷ 0 ∷ 0xe00000001 ∷ 0x1200000001 ∷ 0x61 ∷ [])
+
+-- A design of three declarations (one without ports, one with port 0, one with port 1), two ports (0 a bit, 1 a bus of
+-- four), three instances (of declarations 1, 2 and 1) and a cell that has the first two, with a net of two port
+-- instances, the second with this row: port, bus tag, bit, owner tag, instance.
+abbrev pub with_port_instance : List ℕ → Value ℕ netlist
+with_port_instance row =
+    ([], ([], ([], (((0 ∷ 0 ∷ []), ([], tt)),
+        ((((0 ∷ []), ([], tt)) ∷ ((1 ∷ []), ((0 ∷ []), tt)) ∷ ((2 ∷ []), ((1 ∷ []), tt)) ∷ []),
+        ((((3 ∷ 1 ∷ 0 ∷ 0 ∷ 0 ∷ []), ([], tt)) ∷ ((4 ∷ 0 ∷ 1 ∷ 3 ∷ 0 ∷ []), ([], tt)) ∷ []),
+        ((((5 ∷ 1 ∷ []), ([], tt)) ∷ ((6 ∷ 2 ∷ []), ([], tt)) ∷ ((7 ∷ 1 ∷ []), ([], tt)) ∷ []),
+        ((((0 ∷ []), ((0 ∷ 1 ∷ []), ((((8 ∷ []), ((((0 ∷ 0 ∷ 0 ∷ 1 ∷ 0 ∷ []), tt) ∷ (row, tt) ∷ []), tt)) ∷ []), tt))) ∷ []), tt))))))))
+
+-- A net with one source, of this row, and below it a branch of the other: kind, first, second, third, forward.
+abbrev pub with_branches : List ℕ → List ℕ → Value ℕ phys_netlist
+with_branches row below = ([], ([], ([], ((((0 ∷ 0 ∷ []), (branch row (branch below ends ends) ends, (ends, tt))) ∷ []), ([], ([], tt))))))
+
+-- a field of the second struct of its name
+abbrev pub second : String → String → Option Item
+second kind field = Some (record { kind = codes kind; field = codes field; index = 1 })

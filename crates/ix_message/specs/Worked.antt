@@ -529,23 +529,182 @@ whole_file = file_of (
     0x1200000005 ∷ 0 ∷ 0x71 ∷ 0x70 ∷ [])
 
 abbrev pub whole_record : Value Datum device
-whole_record =
-    ([], ((codes "D"), ((((name "S" ∷ []), ((((name "p" ∷ plain 1 ∷ name "b" ∷ []), tt) ∷ ((name "q" ∷ plain 0 ∷
-    name "b" ∷ []), tt) ∷ []), ((((name "O" ∷ plain 1 ∷ plain 0 ∷ []), tt) ∷ []), ((((name "b" ∷ plain 0 ∷ plain 0 ∷
-    plain 0 ∷ plain 0 ∷ []), tt) ∷ ((name "m" ∷ plain 1 ∷ plain 1 ∷ plain 0 ∷ plain 1 ∷ []), tt) ∷ []), ((((plain 1
-    ∷ plain 0 ∷ []), tt) ∷ []), ((((name "w" ∷ []), ((plain 0 ∷ plain 1 ∷ []), tt)) ∷ []), tt)))))) ∷ []), ((((name
-    "T" ∷ []), ((((plain 0 ∷ []), ((name "A" ∷ []), tt)) ∷ []), ((name "A" ∷ name "B" ∷ name "C" ∷ []), ((((plain 0
-    ∷ plain 1 ∷ plain 1 ∷ plain 0 ∷ []), tt) ∷ ((plain 2 ∷ plain 1 ∷ plain 0 ∷ plain 1 ∷ []), tt) ∷ []), ((((plain 1
-    ∷ []), ((plain 2 ∷ []), tt)) ∷ ((plain 2 ∷ []), ([], tt)) ∷ []), tt))))) ∷ []), ((((name "t" ∷ plain 0 ∷ plain 3
-    ∷ plain 70000 ∷ []), ((((name "s" ∷ plain 0 ∷ []), tt) ∷ []), tt)) ∷ []), ((((name "t" ∷ name "A" ∷ []), tt) ∷
-    ((name "t" ∷ name "B" ∷ []), tt) ∷ []), ((([], ((plain 0 ∷ plain 1 ∷ []), tt)) ∷ ([], ([], tt)) ∷ []), ((((name
-    "c" ∷ []), ((([], ((((name "S" ∷ []), ((name "b" ∷ name "m" ∷ []), tt)) ∷ []), ((((name "I" ∷ name "q" ∷ []),
-    tt) ∷ []), tt))) ∷ []), tt)) ∷ []), ((((name "k" ∷ []), ((((name "1" ∷ plain 1 ∷ name "s" ∷ []), tt) ∷ ((name
-    "2" ∷ plain 0 ∷ plain 0 ∷ []), tt) ∷ []), tt)) ∷ []), ((Some ((name "GND" ∷ name "G" ∷ name "VCC" ∷ name "P" ∷
-    []), ((((name "S" ∷ name "b" ∷ name "p" ∷ plain 2 ∷ []), tt) ∷ []), ((((name "t" ∷ name "C" ∷ plain 1 ∷ []), tt)
-    ∷ []), tt)))), (([], ((((plain 1 ∷ []), ((codes "LUT2"), (((codes "I0") ∷ (codes "I1") ∷ []), ((codes "INIT"),
-    tt)))) ∷ []), ((([], ((codes "S"), ((((plain 4 ∷ []), ((((plain 0 ∷ plain 3 ∷ []), ((codes "b"), (((codes "q") ∷
-    [] ∷ []), ((codes "p"), tt)))) ∷ []), tt)) ∷ []), tt))) ∷ []), tt))), tt)))))))))))
+whole_record = (
+  [],
+  (
+    (codes "D"),
+    (
+      ((
+        (name "S" ∷ []),
+        (
+          (((name "p" ∷ plain 1 ∷ name "b" ∷ []), tt) ∷ (
+            (name "q" ∷ plain 0 ∷
+                name "b" ∷ []),
+            tt,
+          ) ∷ []),
+          (
+            (((name "O" ∷ plain 1 ∷ plain 0 ∷ []), tt) ∷ []),
+            (
+              ((
+                (name "b" ∷ plain 0 ∷ plain 0 ∷
+                    plain 0 ∷ plain 0 ∷ []),
+                tt,
+              ) ∷ ((name "m" ∷ plain 1 ∷ plain 1 ∷ plain 0 ∷ plain 1 ∷ []), tt) ∷ []),
+              (
+                ((
+                  (plain 1
+                      ∷ plain 0 ∷ []),
+                  tt,
+                ) ∷ []),
+                ((((name "w" ∷ []), ((plain 0 ∷ plain 1 ∷ []), tt)) ∷ []), tt),
+              ),
+            ),
+          ),
+        ),
+      ) ∷ []),
+      (
+        ((
+          (name
+              "T" ∷ []),
+          (
+            (((plain 0 ∷ []), ((name "A" ∷ []), tt)) ∷ []),
+            (
+              (name "A" ∷ name "B" ∷ name "C" ∷ []),
+              (
+                ((
+                  (plain 0
+                      ∷ plain 1 ∷ plain 1 ∷ plain 0 ∷ []),
+                  tt,
+                ) ∷ ((plain 2 ∷ plain 1 ∷ plain 0 ∷ plain 1 ∷ []), tt) ∷ []),
+                (
+                  ((
+                    (plain 1
+                        ∷ []),
+                    ((plain 2 ∷ []), tt),
+                  ) ∷ ((plain 2 ∷ []), ([], tt)) ∷ []),
+                  tt,
+                ),
+              ),
+            ),
+          ),
+        ) ∷ []),
+        (
+          ((
+            (name "t" ∷ plain 0 ∷ plain 3
+                ∷ plain 70000 ∷ []),
+            ((((name "s" ∷ plain 0 ∷ []), tt) ∷ []), tt),
+          ) ∷ []),
+          (
+            (((name "t" ∷ name "A" ∷ []), tt) ∷
+                ((name "t" ∷ name "B" ∷ []), tt) ∷ []),
+            (
+              (([], ((plain 0 ∷ plain 1 ∷ []), tt)) ∷ ([], ([], tt)) ∷ []),
+              (
+                ((
+                  (name
+                      "c" ∷ []),
+                  (
+                    ((
+                      [],
+                      (
+                        (((name "S" ∷ []), ((name "b" ∷ name "m" ∷ []), tt)) ∷ []),
+                        (
+                          ((
+                            (name "I" ∷ name "q" ∷ []),
+                            tt,
+                          ) ∷ []),
+                          tt,
+                        ),
+                      ),
+                    ) ∷ []),
+                    tt,
+                  ),
+                ) ∷ []),
+                (
+                  ((
+                    (name "k" ∷ []),
+                    (
+                      (((name "1" ∷ plain 1 ∷ name "s" ∷ []), tt) ∷ (
+                        (name
+                            "2" ∷ plain 0 ∷ plain 0 ∷ []),
+                        tt,
+                      ) ∷ []),
+                      tt,
+                    ),
+                  ) ∷ []),
+                  (
+                    (Some (
+                      (name "GND" ∷ name "G" ∷ name "VCC" ∷ name "P" ∷
+                          []),
+                      (
+                        (((name "S" ∷ name "b" ∷ name "p" ∷ plain 2 ∷ []), tt) ∷ []),
+                        (
+                          (((name "t" ∷ name "C" ∷ plain 1 ∷ []), tt)
+                              ∷ []),
+                          tt,
+                        ),
+                      ),
+                    )),
+                    (
+                      (
+                        [],
+                        (
+                          ((
+                            (plain 1 ∷ []),
+                            (
+                              (codes "LUT2"),
+                              (
+                                ((codes "I0") ∷ (codes "I1") ∷ []),
+                                (
+                                  (codes "INIT"),
+                                  tt,
+                                ),
+                              ),
+                            ),
+                          ) ∷ []),
+                          (
+                            ((
+                              [],
+                              (
+                                (codes "S"),
+                                (
+                                  ((
+                                    (plain 4 ∷ []),
+                                    (
+                                      ((
+                                        (plain 0 ∷ plain 3 ∷ []),
+                                        (
+                                          (codes "b"),
+                                          (
+                                            ((codes "q") ∷
+                                                [] ∷ []),
+                                            ((codes "p"), tt),
+                                          ),
+                                        ),
+                                      ) ∷ []),
+                                      tt,
+                                    ),
+                                  ) ∷ []),
+                                  tt,
+                                ),
+                              ),
+                            ) ∷ []),
+                            tt,
+                          ),
+                        ),
+                      ),
+                      tt,
+                    ),
+                  ),
+                ),
+              ),
+            ),
+          ),
+        ),
+      ),
+    ),
+  ),
+)
 
 -- A device whose root pointer leads to itself.
 abbrev pub self_pointer : List ℕ
@@ -559,12 +718,28 @@ no_declaration = file_of (0x700000000 ∷ 0x4000000000000 ∷ 0 ∷ 0 ∷ 0 ∷ 
 -- four), three instances (of declarations 1, 2 and 1) and a cell that has the first two, with a net of two port
 -- instances, the second with this row: port, bus tag, bit, owner tag, instance.
 abbrev pub with_port_instance : List ℕ → Value ℕ netlist
-with_port_instance row =
-    ([], ([], ([], (((0 ∷ 0 ∷ []), ([], tt)),
-        ((((0 ∷ []), ([], tt)) ∷ ((1 ∷ []), ((0 ∷ []), tt)) ∷ ((2 ∷ []), ((1 ∷ []), tt)) ∷ []),
-        ((((3 ∷ 1 ∷ 0 ∷ 0 ∷ 0 ∷ []), ([], tt)) ∷ ((4 ∷ 0 ∷ 1 ∷ 3 ∷ 0 ∷ []), ([], tt)) ∷ []),
-        ((((5 ∷ 1 ∷ []), ([], tt)) ∷ ((6 ∷ 2 ∷ []), ([], tt)) ∷ ((7 ∷ 1 ∷ []), ([], tt)) ∷ []),
-        ((((0 ∷ []), ((0 ∷ 1 ∷ []), ((((8 ∷ []), ((((0 ∷ 0 ∷ 0 ∷ 1 ∷ 0 ∷ []), tt) ∷ (row, tt) ∷ []), tt)) ∷ []), tt))) ∷ []), tt))))))))
+with_port_instance row = (
+  [],
+  (
+    [],
+    (
+      [],
+      (
+        ((0 ∷ 0 ∷ []), ([], tt)),
+        (
+          (((0 ∷ []), ([], tt)) ∷ ((1 ∷ []), ((0 ∷ []), tt)) ∷ ((2 ∷ []), ((1 ∷ []), tt)) ∷ []),
+          (
+            (((3 ∷ 1 ∷ 0 ∷ 0 ∷ 0 ∷ []), ([], tt)) ∷ ((4 ∷ 0 ∷ 1 ∷ 3 ∷ 0 ∷ []), ([], tt)) ∷ []),
+            (
+              (((5 ∷ 1 ∷ []), ([], tt)) ∷ ((6 ∷ 2 ∷ []), ([], tt)) ∷ ((7 ∷ 1 ∷ []), ([], tt)) ∷ []),
+              ((((0 ∷ []), ((0 ∷ 1 ∷ []), ((((8 ∷ []), ((((0 ∷ 0 ∷ 0 ∷ 1 ∷ 0 ∷ []), tt) ∷ (row, tt) ∷ []), tt)) ∷ []), tt))) ∷ []), tt),
+            ),
+          ),
+        ),
+      ),
+    ),
+  ),
+)
 
 -- A net with one source, of this row, and below it a branch of the other: kind, first, second, third, forward.
 abbrev pub with_branches : List ℕ → List ℕ → Value ℕ phys_netlist

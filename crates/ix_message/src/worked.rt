@@ -47,5 +47,4 @@ pub fn bad_fields()
     ensures third_unasked { first_bad phys_netlist 3 (with_branches (1 ∷ 0 ∷ 1 ∷ 7 ∷ 0 ∷ []) (0 ∷ 0 ∷ 1 ∷ 2 ∷ 0 ∷ [])) ≡ None }
     ensures third_below { first_bad phys_netlist 3 (with_branches (1 ∷ 0 ∷ 1 ∷ 7 ∷ 0 ∷ []) (2 ∷ 0 ∷ 1 ∷ 3 ∷ 1 ∷ [])) ≡ second "RouteBranch" "third" }
     ensures kind_below { first_bad phys_netlist 3 (with_branches (3 ∷ 0 ∷ 1 ∷ 2 ∷ 0 ∷ []) (4 ∷ 0 ∷ 1 ∷ 2 ∷ 0 ∷ [])) ≡ second "RouteBranch" "kind_tag" }
-{
-}
+{}

@@ -1,0 +1,6 @@
+//! The reader of device resources.
+#![tactic(auto)]
+
+mod raw;
+
+pub use raw::{RawBelPin, RawSiteType, RawSiteWire};

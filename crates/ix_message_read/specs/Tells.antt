@@ -1,5 +1,5 @@
 -- What a reader tells of a definition.
-use Rattle.std.specs.Prelude.{◌≡◌, ℕ, Result, Ok, Err}
+use Rattle.std.specs.Prelude.{◌≡◌, ℕ, Bool, Result, Ok, Err, if◌then◌else◌}
 use Rattle.ix_num.specs.declared.fault.FrameFault.{FrameFault}
 use Rattle.ix_rec.specs.declared.fault.ReadFault.{ReadFault}
 use Rattle.ix_rec.specs.declared.fault.ReadFault.TheVariants.{Frame, Index, Memory}
@@ -15,3 +15,12 @@ Fails (Index p) given = ⊥
 abbrev pub Tells : {X Y : Type 0} → (X → Y) → Result X ReadFault → ℕ → Result (Y × ℕ) FrameFault → Type 0
 Tells view (Ok x) now given = given ≡ Ok (view x, now)
 Tells view (Err e) now given = Fails e given
+
+-- The same of a reading of a whole message.
+abbrev pub Says : {X Y : Type 0} → (X → Y) → Result X ReadFault → Result Y FrameFault → Type 0
+Says view (Ok x) given = given ≡ Ok (view x)
+Says view (Err e) given = Fails e given
+
+-- a Bool as the number of its slot
+abbrev pub flag_number : Bool → ℕ
+flag_number b = if b then 1 else 0

@@ -3,4 +3,4 @@
 
 mod raw;
 
-pub use raw::{RawBelPin, RawSiteType, RawSiteWire};
+pub use raw::RawDevice;

@@ -24,7 +24,11 @@ impl<'a> FromMessage<'a> for RawSiteTypeBelEntry {
     ghost value = { site_type_bel_entry_numbers };
 
     #[tactic(auto, unfolding(ix_message::specs::Reading::value_at, ix_message::specs::Reading::row_at))]
-    fn read(alloc: Global, o: Obj<'a>, budget: &mut Budget) -> Result<RawSiteTypeBelEntry, ReadFault> {
+    fn read(
+        alloc: Global,
+        o: Obj<'a>,
+        budget: &mut Budget,
+    ) -> Result<RawSiteTypeBelEntry, ReadFault> {
         let bels = o.numbers(slots::site_type_bel_entry::BELS, budget)?;
         let bels = read_numbers(alloc, bels)?;
         Ok(RawSiteTypeBelEntry {
@@ -52,7 +56,11 @@ impl<'a> FromMessage<'a> for RawCellBelPinEntry {
     ghost value = { cell_bel_pin_entry_numbers };
 
     #[tactic(auto, unfolding(ix_message::specs::Reading::value_at, ix_message::specs::Reading::row_at))]
-    fn read(_alloc: Global, o: Obj<'a>, _budget: &mut Budget) -> Result<RawCellBelPinEntry, ReadFault> {
+    fn read(
+        _alloc: Global,
+        o: Obj<'a>,
+        _budget: &mut Budget,
+    ) -> Result<RawCellBelPinEntry, ReadFault> {
         Ok(RawCellBelPinEntry {
             cell_pin: o.u32_at(slots::cell_bel_pin_entry::CELL_PIN),
             bel_pin: o.u32_at(slots::cell_bel_pin_entry::BEL_PIN),
@@ -78,15 +86,16 @@ impl<'a> FromMessage<'a> for RawCommonCellBelPinMaps {
     ghost value = { common_cell_bel_pin_maps_numbers };
 
     #[tactic(auto, unfolding(ix_message::specs::Reading::value_at, ix_message::specs::Reading::row_at))]
-    fn read(alloc: Global, o: Obj<'a>, budget: &mut Budget) -> Result<RawCommonCellBelPinMaps, ReadFault> {
+    fn read(
+        alloc: Global,
+        o: Obj<'a>,
+        budget: &mut Budget,
+    ) -> Result<RawCommonCellBelPinMaps, ReadFault> {
         let site_types = o.list(slots::common_cell_bel_pin_maps::SITE_TYPES, budget)?;
         let site_types = read_list(alloc, site_types, budget)?;
         let pins = o.list(slots::common_cell_bel_pin_maps::PINS, budget)?;
         let pins = read_list(alloc, pins, budget)?;
-        Ok(RawCommonCellBelPinMaps {
-            site_types,
-            pins,
-        })
+        Ok(RawCommonCellBelPinMaps { site_types, pins })
     }
 }
 
@@ -108,7 +117,11 @@ impl<'a> FromMessage<'a> for RawCellBelMapping {
     ghost value = { cell_bel_mapping_numbers };
 
     #[tactic(auto, unfolding(ix_message::specs::Reading::value_at, ix_message::specs::Reading::row_at))]
-    fn read(alloc: Global, o: Obj<'a>, budget: &mut Budget) -> Result<RawCellBelMapping, ReadFault> {
+    fn read(
+        alloc: Global,
+        o: Obj<'a>,
+        budget: &mut Budget,
+    ) -> Result<RawCellBelMapping, ReadFault> {
         let common_pins = o.list(slots::cell_bel_mapping::COMMON_PINS, budget)?;
         let common_pins = read_list(alloc, common_pins, budget)?;
         Ok(RawCellBelMapping {

@@ -1,11 +1,11 @@
 //! The root.
 
-use super::site_type::{RawSiteType};
-use super::tile_type::{RawTileType};
-use super::tile::{RawNode, RawTile, RawWire};
-use super::cell_map::{RawCellBelMapping};
+use super::cell_map::RawCellBelMapping;
+use super::lut::RawLutDefinitions;
 use super::package::{RawConstants, RawPackage};
-use super::lut::{RawLutDefinitions};
+use super::site_type::RawSiteType;
+use super::tile::{RawNode, RawTile, RawWire};
+use super::tile_type::RawTileType;
 use ix_frame::{Budget, Obj};
 use ix_message::slots;
 use ix_message_read::{FromMessage, read_list, read_struct, read_struct_or_none};

@@ -97,7 +97,11 @@ impl<'a> FromMessage<'a> for RawLutElement<'a> {
     ghost value = { lut_element_numbers };
 
     #[tactic(auto, unfolding(ix_message::specs::Reading::value_at, ix_message::specs::Reading::row_at))]
-    fn read(alloc: Global, o: Obj<'a>, budget: &mut Budget) -> Result<RawLutElement<'a>, ReadFault> {
+    fn read(
+        alloc: Global,
+        o: Obj<'a>,
+        budget: &mut Budget,
+    ) -> Result<RawLutElement<'a>, ReadFault> {
         let bels = o.list(slots::lut_element::BELS, budget)?;
         let bels = read_list(alloc, bels, budget)?;
         Ok(RawLutElement {
@@ -125,14 +129,15 @@ impl<'a> FromMessage<'a> for RawSiteTypeLutElements<'a> {
     ghost value = { site_type_lut_elements_numbers };
 
     #[tactic(auto, unfolding(ix_message::specs::Reading::value_at, ix_message::specs::Reading::row_at))]
-    fn read(alloc: Global, o: Obj<'a>, budget: &mut Budget) -> Result<RawSiteTypeLutElements<'a>, ReadFault> {
+    fn read(
+        alloc: Global,
+        o: Obj<'a>,
+        budget: &mut Budget,
+    ) -> Result<RawSiteTypeLutElements<'a>, ReadFault> {
         let site = o.text(slots::site_type_lut_elements::SITE, budget)?;
         let luts = o.list(slots::site_type_lut_elements::LUTS, budget)?;
         let luts = read_list(alloc, luts, budget)?;
-        Ok(RawSiteTypeLutElements {
-            site,
-            luts,
-        })
+        Ok(RawSiteTypeLutElements { site, luts })
     }
 }
 
@@ -154,7 +159,11 @@ impl<'a> FromMessage<'a> for RawLutDefinitions<'a> {
     ghost value = { lut_definitions_numbers };
 
     #[tactic(auto, unfolding(ix_message::specs::Reading::value_at, ix_message::specs::Reading::row_at))]
-    fn read(alloc: Global, o: Obj<'a>, budget: &mut Budget) -> Result<RawLutDefinitions<'a>, ReadFault> {
+    fn read(
+        alloc: Global,
+        o: Obj<'a>,
+        budget: &mut Budget,
+    ) -> Result<RawLutDefinitions<'a>, ReadFault> {
         let lut_cells = o.list(slots::lut_definitions::LUT_CELLS, budget)?;
         let lut_cells = read_list(alloc, lut_cells, budget)?;
         let lut_elements = o.list(slots::lut_definitions::LUT_ELEMENTS, budget)?;

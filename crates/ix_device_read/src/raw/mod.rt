@@ -9,10 +9,14 @@ mod site_type;
 mod tile;
 mod tile_type;
 
-pub use cell_map::{RawCellBelMapping, RawCellBelPinEntry, RawCommonCellBelPinMaps, RawSiteTypeBelEntry};
-pub use device::{RawDevice};
+pub use cell_map::{
+    RawCellBelMapping, RawCellBelPinEntry, RawCommonCellBelPinMaps, RawSiteTypeBelEntry,
+};
+pub use device::RawDevice;
 pub use lut::{RawLutBel, RawLutCell, RawLutDefinitions, RawLutElement, RawSiteTypeLutElements};
-pub use package::{RawConstants, RawNodeConstantSource, RawPackage, RawPackagePin, RawSiteConstantSource};
+pub use package::{
+    RawConstants, RawNodeConstantSource, RawPackage, RawPackagePin, RawSiteConstantSource,
+};
 pub use site_type::{RawBel, RawBelPin, RawSitePin, RawSitePip, RawSiteType, RawSiteWire};
 pub use tile::{RawNode, RawSite, RawTile, RawWire};
 pub use tile_type::{RawPip, RawSiteTypeInTileType, RawTileType, RawWireConstantSources};

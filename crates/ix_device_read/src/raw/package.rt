@@ -85,7 +85,11 @@ impl<'a> FromMessage<'a> for RawSiteConstantSource {
     ghost value = { site_constant_source_numbers };
 
     #[tactic(auto, unfolding(ix_message::specs::Reading::value_at, ix_message::specs::Reading::row_at))]
-    fn read(_alloc: Global, o: Obj<'a>, _budget: &mut Budget) -> Result<RawSiteConstantSource, ReadFault> {
+    fn read(
+        _alloc: Global,
+        o: Obj<'a>,
+        _budget: &mut Budget,
+    ) -> Result<RawSiteConstantSource, ReadFault> {
         Ok(RawSiteConstantSource {
             site_type: o.u32_at(slots::site_constant_source::SITE_TYPE),
             bel: o.u32_at(slots::site_constant_source::BEL),
@@ -115,7 +119,11 @@ impl<'a> FromMessage<'a> for RawNodeConstantSource {
     ghost value = { node_constant_source_numbers };
 
     #[tactic(auto, unfolding(ix_message::specs::Reading::value_at, ix_message::specs::Reading::row_at))]
-    fn read(_alloc: Global, o: Obj<'a>, _budget: &mut Budget) -> Result<RawNodeConstantSource, ReadFault> {
+    fn read(
+        _alloc: Global,
+        o: Obj<'a>,
+        _budget: &mut Budget,
+    ) -> Result<RawNodeConstantSource, ReadFault> {
         Ok(RawNodeConstantSource {
             tile: o.u32_at(slots::node_constant_source::TILE),
             wire: o.u32_at(slots::node_constant_source::WIRE),

@@ -186,7 +186,7 @@ impl<'a> FromMessage<'a> for RawSiteType {
         let pins = read_list(alloc, pins, budget)?;
         let bels = o.list(slots::site_type::BELS, budget)?;
         let bels = read_list(alloc, bels, budget)?;
-        let site_pips = o.list(slots::site_type::SITE_PIPS, budget)?;
+        let site_pips = o.list(slots::site_type::SITE_PI_PS, budget)?;
         let site_pips = read_list(alloc, site_pips, budget)?;
         let site_wires = o.list(slots::site_type::SITE_WIRES, budget)?;
         let site_wires = read_list(alloc, site_wires, budget)?;

@@ -114,8 +114,6 @@ impl<'a> FromMessage<'a> for RawNode {
     fn read(alloc: Global, o: Obj<'a>, budget: &mut Budget) -> Result<RawNode, ReadFault> {
         let wires = o.numbers(slots::node::WIRES, budget)?;
         let wires = read_numbers(alloc, wires)?;
-        Ok(RawNode {
-            wires,
-        })
+        Ok(RawNode { wires })
     }
 }

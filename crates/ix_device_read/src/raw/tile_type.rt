@@ -24,8 +24,15 @@ impl<'a> FromMessage<'a> for RawSiteTypeInTileType {
     ghost value = { site_type_in_tile_type_numbers };
 
     #[tactic(auto, unfolding(ix_message::specs::Reading::value_at, ix_message::specs::Reading::row_at))]
-    fn read(alloc: Global, o: Obj<'a>, budget: &mut Budget) -> Result<RawSiteTypeInTileType, ReadFault> {
-        let primary_pins_to_tile_wires = o.numbers(slots::site_type_in_tile_type::PRIMARY_PINS_TO_TILE_WIRES, budget)?;
+    fn read(
+        alloc: Global,
+        o: Obj<'a>,
+        budget: &mut Budget,
+    ) -> Result<RawSiteTypeInTileType, ReadFault> {
+        let primary_pins_to_tile_wires = o.numbers(
+            slots::site_type_in_tile_type::PRIMARY_PINS_TO_TILE_WIRES,
+            budget,
+        )?;
         let primary_pins_to_tile_wires = read_numbers(alloc, primary_pins_to_tile_wires)?;
         Ok(RawSiteTypeInTileType {
             primary_type: o.u32_at(slots::site_type_in_tile_type::PRIMARY_TYPE),
@@ -84,7 +91,11 @@ impl<'a> FromMessage<'a> for RawWireConstantSources {
     ghost value = { wire_constant_sources_numbers };
 
     #[tactic(auto, unfolding(ix_message::specs::Reading::value_at, ix_message::specs::Reading::row_at))]
-    fn read(alloc: Global, o: Obj<'a>, budget: &mut Budget) -> Result<RawWireConstantSources, ReadFault> {
+    fn read(
+        alloc: Global,
+        o: Obj<'a>,
+        budget: &mut Budget,
+    ) -> Result<RawWireConstantSources, ReadFault> {
         let wires = o.numbers(slots::wire_constant_sources::WIRES, budget)?;
         let wires = read_numbers(alloc, wires)?;
         Ok(RawWireConstantSources {

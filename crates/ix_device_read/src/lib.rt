@@ -1,6 +1,8 @@
 //! The reader of device resources.
 #![tactic(auto)]
 
-mod raw;
-
-pub use raw::RawDevice;
+mod context;
+mod finish;
+mod site_type;
+mod stop;
+mod walk;

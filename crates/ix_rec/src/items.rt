@@ -64,6 +64,13 @@ impl<T> Items<T> {
         &self.items[i]
     }
 
+    /// The vector of the items, which is handed over and not copied.
+    pub fn into_vec(self) -> Vec<T>
+        ensures { result.items ≡ self }
+    {
+        self.items
+    }
+
     /// The items, in order.
     pub fn as_slice(&self) -> &[T]
         ensures { result.now ≡ self.now }

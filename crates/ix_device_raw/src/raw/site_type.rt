@@ -19,7 +19,7 @@ pub struct RawBelPin {
 
 impl<'a> FromMessage<'a> for RawBelPin {
     ghost use Rattle.ix_message.specs.Device.{bel_pin};
-    ghost use Rattle.ix_device_read.specs.Raw.{bel_pin_numbers};
+    ghost use Rattle.ix_device_raw.specs.Raw.{bel_pin_numbers};
 
     ghost shape = { bel_pin };
 
@@ -48,7 +48,7 @@ pub struct RawSitePin {
 
 impl<'a> FromMessage<'a> for RawSitePin {
     ghost use Rattle.ix_message.specs.Device.{site_pin};
-    ghost use Rattle.ix_device_read.specs.Raw.{site_pin_numbers};
+    ghost use Rattle.ix_device_raw.specs.Raw.{site_pin_numbers};
 
     ghost shape = { site_pin };
 
@@ -81,7 +81,7 @@ pub struct RawBel {
 
 impl<'a> FromMessage<'a> for RawBel {
     ghost use Rattle.ix_message.specs.Device.{bel};
-    ghost use Rattle.ix_device_read.specs.Raw.{bel_numbers};
+    ghost use Rattle.ix_device_raw.specs.Raw.{bel_numbers};
 
     ghost shape = { bel };
 
@@ -110,7 +110,7 @@ pub struct RawSitePip {
 
 impl<'a> FromMessage<'a> for RawSitePip {
     ghost use Rattle.ix_message.specs.Device.{site_pip};
-    ghost use Rattle.ix_device_read.specs.Raw.{site_pip_numbers};
+    ghost use Rattle.ix_device_raw.specs.Raw.{site_pip_numbers};
 
     ghost shape = { site_pip };
 
@@ -136,7 +136,7 @@ pub struct RawSiteWire {
 
 impl<'a> FromMessage<'a> for RawSiteWire {
     ghost use Rattle.ix_message.specs.Device.{site_wire};
-    ghost use Rattle.ix_device_read.specs.Raw.{site_wire_numbers};
+    ghost use Rattle.ix_device_raw.specs.Raw.{site_wire_numbers};
 
     ghost shape = { site_wire };
 
@@ -172,7 +172,7 @@ pub struct RawSiteType {
 
 impl<'a> FromMessage<'a> for RawSiteType {
     ghost use Rattle.ix_message.specs.Device.{site_type};
-    ghost use Rattle.ix_device_read.specs.Raw.{site_type_numbers};
+    ghost use Rattle.ix_device_raw.specs.Raw.{site_type_numbers};
 
     ghost shape = { site_type };
 

@@ -19,7 +19,7 @@ pub struct RawPackagePin {
 
 impl<'a> FromMessage<'a> for RawPackagePin {
     ghost use Rattle.ix_message.specs.Device.{package_pin};
-    ghost use Rattle.ix_device_read.specs.Raw.{package_pin_numbers};
+    ghost use Rattle.ix_device_raw.specs.Raw.{package_pin_numbers};
 
     ghost shape = { package_pin };
 
@@ -46,7 +46,7 @@ pub struct RawPackage {
 
 impl<'a> FromMessage<'a> for RawPackage {
     ghost use Rattle.ix_message.specs.Device.{package_of_pins};
-    ghost use Rattle.ix_device_read.specs.Raw.{package_of_pins_numbers};
+    ghost use Rattle.ix_device_raw.specs.Raw.{package_of_pins_numbers};
 
     ghost shape = { package_of_pins };
 
@@ -78,7 +78,7 @@ pub struct RawSiteConstantSource {
 
 impl<'a> FromMessage<'a> for RawSiteConstantSource {
     ghost use Rattle.ix_message.specs.Device.{site_constant_source};
-    ghost use Rattle.ix_device_read.specs.Raw.{site_constant_source_numbers};
+    ghost use Rattle.ix_device_raw.specs.Raw.{site_constant_source_numbers};
 
     ghost shape = { site_constant_source };
 
@@ -112,7 +112,7 @@ pub struct RawNodeConstantSource {
 
 impl<'a> FromMessage<'a> for RawNodeConstantSource {
     ghost use Rattle.ix_message.specs.Device.{node_constant_source};
-    ghost use Rattle.ix_device_read.specs.Raw.{node_constant_source_numbers};
+    ghost use Rattle.ix_device_raw.specs.Raw.{node_constant_source_numbers};
 
     ghost shape = { node_constant_source };
 
@@ -151,7 +151,7 @@ pub struct RawConstants {
 
 impl<'a> FromMessage<'a> for RawConstants {
     ghost use Rattle.ix_message.specs.Device.{constant_cells};
-    ghost use Rattle.ix_device_read.specs.Raw.{constant_cells_numbers};
+    ghost use Rattle.ix_device_raw.specs.Raw.{constant_cells_numbers};
 
     ghost shape = { constant_cells };
 

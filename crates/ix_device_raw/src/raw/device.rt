@@ -39,7 +39,7 @@ pub struct RawDevice<'a> {
 
 impl<'a> FromMessage<'a> for RawDevice<'a> {
     ghost use Rattle.ix_message.specs.Device.{device};
-    ghost use Rattle.ix_device_read.specs.Raw.{device_numbers};
+    ghost use Rattle.ix_device_raw.specs.Raw.{device_numbers};
 
     ghost shape = { device };
 

@@ -17,7 +17,7 @@ pub struct RawSite {
 
 impl<'a> FromMessage<'a> for RawSite {
     ghost use Rattle.ix_message.specs.Device.{site};
-    ghost use Rattle.ix_device_read.specs.Raw.{site_numbers};
+    ghost use Rattle.ix_device_raw.specs.Raw.{site_numbers};
 
     ghost shape = { site };
 
@@ -49,7 +49,7 @@ pub struct RawTile {
 
 impl<'a> FromMessage<'a> for RawTile {
     ghost use Rattle.ix_message.specs.Device.{tile};
-    ghost use Rattle.ix_device_read.specs.Raw.{tile_numbers};
+    ghost use Rattle.ix_device_raw.specs.Raw.{tile_numbers};
 
     ghost shape = { tile };
 
@@ -80,7 +80,7 @@ pub struct RawWire {
 
 impl<'a> FromMessage<'a> for RawWire {
     ghost use Rattle.ix_message.specs.Device.{wire};
-    ghost use Rattle.ix_device_read.specs.Raw.{wire_numbers};
+    ghost use Rattle.ix_device_raw.specs.Raw.{wire_numbers};
 
     ghost shape = { wire };
 
@@ -104,7 +104,7 @@ pub struct RawNode {
 
 impl<'a> FromMessage<'a> for RawNode {
     ghost use Rattle.ix_message.specs.Device.{node};
-    ghost use Rattle.ix_device_read.specs.Raw.{node_numbers};
+    ghost use Rattle.ix_device_raw.specs.Raw.{node_numbers};
 
     ghost shape = { node };
 

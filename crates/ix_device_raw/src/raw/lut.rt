@@ -21,7 +21,7 @@ pub struct RawLutCell<'a> {
 
 impl<'a> FromMessage<'a> for RawLutCell<'a> {
     ghost use Rattle.ix_message.specs.Device.{lut_cell};
-    ghost use Rattle.ix_device_read.specs.Raw.{lut_cell_numbers};
+    ghost use Rattle.ix_device_raw.specs.Raw.{lut_cell_numbers};
 
     ghost shape = { lut_cell };
 
@@ -58,7 +58,7 @@ pub struct RawLutBel<'a> {
 
 impl<'a> FromMessage<'a> for RawLutBel<'a> {
     ghost use Rattle.ix_message.specs.Device.{lut_bel};
-    ghost use Rattle.ix_device_read.specs.Raw.{lut_bel_numbers};
+    ghost use Rattle.ix_device_raw.specs.Raw.{lut_bel_numbers};
 
     ghost shape = { lut_bel };
 
@@ -90,7 +90,7 @@ pub struct RawLutElement<'a> {
 
 impl<'a> FromMessage<'a> for RawLutElement<'a> {
     ghost use Rattle.ix_message.specs.Device.{lut_element};
-    ghost use Rattle.ix_device_read.specs.Raw.{lut_element_numbers};
+    ghost use Rattle.ix_device_raw.specs.Raw.{lut_element_numbers};
 
     ghost shape = { lut_element };
 
@@ -122,7 +122,7 @@ pub struct RawSiteTypeLutElements<'a> {
 
 impl<'a> FromMessage<'a> for RawSiteTypeLutElements<'a> {
     ghost use Rattle.ix_message.specs.Device.{site_type_lut_elements};
-    ghost use Rattle.ix_device_read.specs.Raw.{site_type_lut_elements_numbers};
+    ghost use Rattle.ix_device_raw.specs.Raw.{site_type_lut_elements_numbers};
 
     ghost shape = { site_type_lut_elements };
 
@@ -152,7 +152,7 @@ pub struct RawLutDefinitions<'a> {
 
 impl<'a> FromMessage<'a> for RawLutDefinitions<'a> {
     ghost use Rattle.ix_message.specs.Device.{lut_definitions};
-    ghost use Rattle.ix_device_read.specs.Raw.{lut_definitions_numbers};
+    ghost use Rattle.ix_device_raw.specs.Raw.{lut_definitions_numbers};
 
     ghost shape = { lut_definitions };
 

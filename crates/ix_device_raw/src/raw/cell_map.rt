@@ -17,7 +17,7 @@ pub struct RawSiteTypeBelEntry {
 
 impl<'a> FromMessage<'a> for RawSiteTypeBelEntry {
     ghost use Rattle.ix_message.specs.Device.{site_type_bel_entry};
-    ghost use Rattle.ix_device_read.specs.Raw.{site_type_bel_entry_numbers};
+    ghost use Rattle.ix_device_raw.specs.Raw.{site_type_bel_entry_numbers};
 
     ghost shape = { site_type_bel_entry };
 
@@ -49,7 +49,7 @@ pub struct RawCellBelPinEntry {
 
 impl<'a> FromMessage<'a> for RawCellBelPinEntry {
     ghost use Rattle.ix_message.specs.Device.{cell_bel_pin_entry};
-    ghost use Rattle.ix_device_read.specs.Raw.{cell_bel_pin_entry_numbers};
+    ghost use Rattle.ix_device_raw.specs.Raw.{cell_bel_pin_entry_numbers};
 
     ghost shape = { cell_bel_pin_entry };
 
@@ -79,7 +79,7 @@ pub struct RawCommonCellBelPinMaps {
 
 impl<'a> FromMessage<'a> for RawCommonCellBelPinMaps {
     ghost use Rattle.ix_message.specs.Device.{common_cell_bel_pin_maps};
-    ghost use Rattle.ix_device_read.specs.Raw.{common_cell_bel_pin_maps_numbers};
+    ghost use Rattle.ix_device_raw.specs.Raw.{common_cell_bel_pin_maps_numbers};
 
     ghost shape = { common_cell_bel_pin_maps };
 
@@ -110,7 +110,7 @@ pub struct RawCellBelMapping {
 
 impl<'a> FromMessage<'a> for RawCellBelMapping {
     ghost use Rattle.ix_message.specs.Device.{cell_bel_mapping};
-    ghost use Rattle.ix_device_read.specs.Raw.{cell_bel_mapping_numbers};
+    ghost use Rattle.ix_device_raw.specs.Raw.{cell_bel_mapping_numbers};
 
     ghost shape = { cell_bel_mapping };
 

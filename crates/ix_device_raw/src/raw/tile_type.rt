@@ -17,7 +17,7 @@ pub struct RawSiteTypeInTileType {
 
 impl<'a> FromMessage<'a> for RawSiteTypeInTileType {
     ghost use Rattle.ix_message.specs.Device.{site_type_in_tile_type};
-    ghost use Rattle.ix_device_read.specs.Raw.{site_type_in_tile_type_numbers};
+    ghost use Rattle.ix_device_raw.specs.Raw.{site_type_in_tile_type_numbers};
 
     ghost shape = { site_type_in_tile_type };
 
@@ -56,7 +56,7 @@ pub struct RawPip {
 
 impl<'a> FromMessage<'a> for RawPip {
     ghost use Rattle.ix_message.specs.Device.{pip};
-    ghost use Rattle.ix_device_read.specs.Raw.{pip_numbers};
+    ghost use Rattle.ix_device_raw.specs.Raw.{pip_numbers};
 
     ghost shape = { pip };
 
@@ -84,7 +84,7 @@ pub struct RawWireConstantSources {
 
 impl<'a> FromMessage<'a> for RawWireConstantSources {
     ghost use Rattle.ix_message.specs.Device.{wire_constant_sources};
-    ghost use Rattle.ix_device_read.specs.Raw.{wire_constant_sources_numbers};
+    ghost use Rattle.ix_device_raw.specs.Raw.{wire_constant_sources_numbers};
 
     ghost shape = { wire_constant_sources };
 
@@ -122,7 +122,7 @@ pub struct RawTileType {
 
 impl<'a> FromMessage<'a> for RawTileType {
     ghost use Rattle.ix_message.specs.Device.{tile_type};
-    ghost use Rattle.ix_device_read.specs.Raw.{tile_type_numbers};
+    ghost use Rattle.ix_device_raw.specs.Raw.{tile_type_numbers};
 
     ghost shape = { tile_type };
 

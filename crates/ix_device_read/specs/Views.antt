@@ -1,0 +1,59 @@
+-- What the values of this crate are.
+use Rattle.std.specs.Prelude.{◌≡◌, ℕ, ◌-◌, List, [], ◌∷◌, map, Result, Ok, Err, slice_index, slice_index_or}
+use Rattle.ix_rec.specs.declared.device.Direction.{Direction}
+use Rattle.ix_rec.specs.declared.device.Direction.TheVariants.{Input, Output, Inout}
+use Rattle.ix_rec.specs.declared.device.BelPin.{BelPin}
+use Rattle.ix_message.specs.Shape.{Text, Value}
+use Rattle.ix_message.specs.Names.{Datum, the_number, the_text}
+use Rattle.ix_message.specs.Device.{bel_pin}
+use Rattle.ix_device_read.specs.declared.context.Context.{Context}
+use Rattle.ix_device_read.specs.declared.stop.Stop.{Stop}
+use Rattle.ix_device_read.specs.declared.stop.Stop.TheVariants.{OutOfList, Unnamed, Memory}
+use Rattle.ix_device_read.specs.Finish.{Sizes, Stopped, bad, unnamed, field_at}
+
+-- the text of a name
+abbrev pub name_text : List Text → ℕ → Text
+name_text names id = slice_index_or names id []
+
+-- what a context says of the lists
+abbrev pub sizes_of : Context → Sizes
+sizes_of c = record {
+  table = map (name_text c.names.now) c.strings.now;
+  names = c.names.now;
+  site_types = c.site_types;
+  tile_types = c.tile_types.now;
+  wires = c.wires;
+  bel_pins = c.bel_pins;
+  tile_wires = c.tile_wires;
+  tile_type = c.tile_type;
+}
+
+-- the stop is that the field of the last struct of this kind is out of its list
+abbrev pub IsOutOfList : List ℕ → ℕ → Text → Text → Stop → Type 0
+IsOutOfList counts place kind called (OutOfList k f i) = (k.now ≡ kind) × (f.now ≡ called) × (i ≡ slice_index counts place - 1)
+IsOutOfList counts place kind called Unnamed = ⊥
+IsOutOfList counts place kind called Memory = ⊥
+
+-- A stop is the one that the definition finds. Want of memory may be told at any time.
+abbrev pub Stops : {Y : Type 0} → Stop → Result Y Stopped → Type 0
+Stops Memory given = Unit {0}
+Stops Unnamed given = given ≡ Err unnamed
+Stops (OutOfList kind called i) given = given ≡ Err (bad (record { kind = kind.now; field = called.now; index = i }))
+
+-- What was made, seen by view, is what the definition gives, or the first stop is that of the definition.
+abbrev pub Meets : {X Y : Type 0} → (X → Y) → Result X Stop → Result Y Stopped → Type 0
+Meets view (Ok x) given = given ≡ Ok (view x)
+Meets view (Err e) given = Stops e given
+
+-- The same with the counts that are left.
+abbrev pub MeetsWith : {X Y : Type 0} → (X → Y) → Result X Stop → List ℕ → Result (Y × List ℕ) Stopped → Type 0
+MeetsWith view (Ok x) now given = given ≡ Ok (view x, now)
+MeetsWith view (Err e) now given = Stops e given
+
+abbrev pub direction_number : Direction → ℕ
+direction_number Input = 0
+direction_number Output = 1
+direction_number Inout = 2
+
+abbrev pub bel_pin_record : List Text → BelPin → Value Datum bel_pin
+bel_pin_record names p = (the_text (name_text names p.name) ∷ the_number (direction_number p.dir) ∷ the_text (name_text names p.bel) ∷ [], tt)

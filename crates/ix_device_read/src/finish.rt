@@ -1,0 +1,51 @@
+//! From a struct's numbers to its part of the record.
+
+ghost use Rattle.std.specs.Prelude.{◌≡◌, map};
+ghost use Rattle.ix_device_read.specs.Finish.{finish_at, finish_each};
+ghost use Rattle.ix_device_read.specs.Views.{sizes_of, MeetsWith};
+
+use crate::context::Context;
+use crate::stop::Stop;
+use crate::walk::Walk;
+use ix_rec::Items;
+use std::alloc::Global;
+
+/// A struct whose numbers are asked and become a part of the record.
+pub trait Finish: Sized + Drop {
+    ghost use Rattle.std.specs.Prelude.{ℕ, List};
+    ghost use Rattle.ix_message.specs.Shape.{Struct, Value, Text};
+    ghost use Rattle.ix_message.specs.Names.{Datum};
+
+    /// The part of the record.
+    type Part: Drop;
+
+    ghost shape: { Struct };
+
+    ghost numbers: { Self → Value ℕ shape };
+
+    ghost record_by: { List Text → Self.Part → Value Datum shape };
+
+    /// The part of the record that these numbers make, or the first that is out of its list, in reading order.
+    fn finish(self, alloc: Global, ctx: &Context<'_>, walk: &mut Walk) -> Result<Self::Part, Stop>
+        ensures { MeetsWith (record_by ctx.now.names.now) result walk.new (finish_at shape (sizes_of ctx.now) (numbers self) walk.old) };
+}
+
+/// The same of each struct of a list.
+pub fn finish_list<T: Finish>(
+    alloc: Global,
+    list: Items<T>,
+    ctx: &Context<'_>,
+    walk: &mut Walk,
+) -> Result<Items<T::Part>, Stop>
+    ensures { MeetsWith (map (T.record_by ctx.now.names.now)) result walk.new (finish_each (finish_at T.shape (sizes_of ctx.now)) (map T.numbers list) walk.old) }
+{
+    let mut found = Items::with_capacity(alloc, list.len())?;
+    for one in list.into_vec() {
+        let one = match one.finish(alloc, ctx, walk) {
+            Ok(one) => one,
+            Err(stop) => return Err(stop),
+        };
+        found.push(one)?;
+    }
+    Ok(found)
+}

@@ -1,11 +1,13 @@
 -- Finishing the structs of a list one after the other, as a loop does that has finished some and goes on with the rest.
-use Rattle.std.proofs.Common.{◌≡◌, ℕ, List, [], ◌∷◌, ◌++◌, Result, Ok, Err, refl, sym, ap, ◌∙◌, append_assoc}
+use Rattle.std.proofs.Common.{◌≡◌, ℕ, ◌+◌, List, [], ◌∷◌, ◌++◌, length, Result, Ok, Err, refl, sym, ap, ◌∙◌, append_assoc, arith}
 use Rattle.std.proofs.lemmas.List.{append-nil}
 use Rattle.ix_frame.specs.Result.{◌>>=◌}
 use Rattle.ix_device_read.specs.declared.stop.Stop.{Stop}
 use Rattle.ix_device_read.specs.declared.stop.Stop.TheVariants.{OutOfList, Unnamed, Memory}
-use Rattle.ix_device_read.specs.Finish.{Stopped, finish_each}
-use Rattle.ix_device_read.specs.Views.{Stops}
+use Rattle.ix_rec.specs.declared.place.Place.{Place}
+use Rattle.ix_rec.specs.declared.place.Place.TheVariants.{Item}
+use Rattle.ix_device_read.specs.Finish.{Stopped, bad, unnamed, finish_each}
+use Rattle.ix_device_read.specs.Views.{Stops, IsBadAt}
 
 -- what was finished before, and what is still finished
 abbrev pub behind_front : {B : Type 0} → List B → Result (List B × List ℕ) Stopped → Result (List B × List ℕ) Stopped
@@ -24,13 +26,28 @@ one_more finish front x xs all counts y after total is h so_far =
     let one : behind_front front (finish_each finish all counts) ≡ behind_front (front ++ y ∷ []) (finish_each finish xs after) = rw (is, h) (regroup front y (finish_each finish xs after)) in
     sym one ∙ so_far
 
+bad_stops : {Y Z : Type 0} (p : Place) (given : Result Y Stopped) (total : Result Z Stopped) → IsBadAt p given → ((f : Stopped) → given ≡ Err f → total ≡ Err f) → IsBadAt p total
+bad_stops (Item k f i) given total h on = on (bad (record { kind = k; field = f; index = i })) h
+bad_stops _ given total h on = h
+
+-- what stops one thing stops the whole
+pub stops_on : {Y Z : Type 0} (e : Stop) (given : Result Y Stopped) (total : Result Z Stopped) → Stops e given → ((f : Stopped) → given ≡ Err f → total ≡ Err f) → Stops e total
+stops_on Memory given total h on = tt
+stops_on Unnamed given total h on = on unnamed h
+stops_on (OutOfList p) given total h on = bad_stops p given total h on
+
 -- one can't be finished, so the list can't
+each_stops : {A B : Type 0} (f : Stopped) (finish : A → List ℕ → Result (B × List ℕ) Stopped) (front : List B) (x : A) (xs all : List A) (counts : List ℕ) (total : Result (List B × List ℕ) Stopped)
+    → all ≡ x ∷ xs → finish x counts ≡ Err f → behind_front front (finish_each finish all counts) ≡ total → total ≡ Err f
+unfolding finish_each
+each_stops f finish front x xs all counts total is h so_far =
+    let one : behind_front front (finish_each finish all counts) ≡ Err f = rw (is, h) refl in
+    sym so_far ∙ one
+
 pub one_stops : {A B : Type 0} (e : Stop) (finish : A → List ℕ → Result (B × List ℕ) Stopped) (front : List B) (x : A) (xs all : List A) (counts : List ℕ) (total : Result (List B × List ℕ) Stopped)
     → all ≡ x ∷ xs → Stops e (finish x counts) → behind_front front (finish_each finish all counts) ≡ total → Stops e total
-unfolding finish_each
-one_stops Memory finish front x xs all counts total is h so_far = tt
-one_stops Unnamed finish front x xs all counts total is h so_far = sym so_far ∙ rw (is, h) refl
-one_stops (OutOfList k f i) finish front x xs all counts total is h so_far = sym so_far ∙ rw (is, h) refl
+one_stops e finish front x xs all counts total is h so_far =
+    stops_on e (finish x counts) total h (λ f at. each_stops f finish front x xs all counts total is at so_far)
 
 -- all were finished
 pub all_done : {A B : Type 0} (finish : A → List ℕ → Result (B × List ℕ) Stopped) (front : List B) (all : List A) (counts : List ℕ) (total : Result (List B × List ℕ) Stopped)
@@ -39,3 +56,11 @@ unfolding finish_each
 all_done {A} {B} finish front all counts total is so_far =
     let one : behind_front front (finish_each finish all counts) ≡ Ok (front, counts) = rw is (ap (λ (ns : List B). Ok (ns, counts)) (append-nil front)) in
     sym so_far ∙ one
+
+-- what an iterator over a list has left
+pub nothing_left : {A : Type 0} (all : List A) (n : ℕ) → n ≡ 0 → n ≡ length all → all ≡ []
+nothing_left [] n none is = refl
+nothing_left (x ∷ xs) n none is = absurd (omega (arith, none, is))
+
+pub one_left : {A : Type 0} (all : List A) (x : A) (xs : List A) (n after : ℕ) → all ≡ x ∷ xs → after + 1 ≡ n → n ≡ length all → after ≡ length xs
+one_left all x xs n after is less long = let e : length all ≡ length xs + 1 = rw is (omega arith) in omega (arith, e, less, long)

@@ -3,6 +3,8 @@ use Rattle.std.specs.Prelude.{◌≡◌, ℕ, ◌-◌, List, [], ◌∷◌, map,
 use Rattle.ix_rec.specs.declared.device.Direction.{Direction}
 use Rattle.ix_rec.specs.declared.device.Direction.TheVariants.{Input, Output, Inout}
 use Rattle.ix_rec.specs.declared.device.BelPin.{BelPin}
+use Rattle.ix_rec.specs.declared.place.Place.{Place}
+use Rattle.ix_rec.specs.declared.place.Place.TheVariants.{Item}
 use Rattle.ix_message.specs.Shape.{Text, Value}
 use Rattle.ix_message.specs.Names.{Datum, the_number, the_text}
 use Rattle.ix_message.specs.Device.{bel_pin}
@@ -28,17 +30,25 @@ sizes_of c = record {
   tile_type = c.tile_type;
 }
 
--- the stop is that the field of the last struct of this kind is out of its list
+-- the stop is that the field of the last struct of this kind is out of its list, unless memory was wanting
+abbrev pub IsField : List ℕ → ℕ → Text → Text → Place → Type 0
+IsField counts place kind called (Item k f i) = (k ≡ kind) × (f ≡ called) × (i ≡ slice_index counts place - 1)
+IsField counts place kind called _ = ⊥
+
 abbrev pub IsOutOfList : List ℕ → ℕ → Text → Text → Stop → Type 0
-IsOutOfList counts place kind called (OutOfList k f i) = (k.now ≡ kind) × (f.now ≡ called) × (i ≡ slice_index counts place - 1)
+IsOutOfList counts place kind called (OutOfList p) = IsField counts place kind called p
 IsOutOfList counts place kind called Unnamed = ⊥
-IsOutOfList counts place kind called Memory = ⊥
+IsOutOfList counts place kind called Memory = Unit {0}
 
 -- A stop is the one that the definition finds. Want of memory may be told at any time.
+abbrev pub IsBadAt : {Y : Type 0} → Place → Result Y Stopped → Type 0
+IsBadAt (Item k f i) given = given ≡ Err (bad (record { kind = k; field = f; index = i }))
+IsBadAt _ given = ⊥
+
 abbrev pub Stops : {Y : Type 0} → Stop → Result Y Stopped → Type 0
 Stops Memory given = Unit {0}
 Stops Unnamed given = given ≡ Err unnamed
-Stops (OutOfList kind called i) given = given ≡ Err (bad (record { kind = kind.now; field = called.now; index = i }))
+Stops (OutOfList p) given = IsBadAt p given
 
 -- What was made, seen by view, is what the definition gives, or the first stop is that of the definition.
 abbrev pub Meets : {X Y : Type 0} → (X → Y) → Result X Stop → Result Y Stopped → Type 0

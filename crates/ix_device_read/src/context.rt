@@ -9,12 +9,15 @@ ghost use Rattle.ix_device_read.specs.Views.{sizes_of, name_text, direction_numb
 use crate::stop::Stop;
 use crate::walk::{KINDS, Walk};
 use ix_num::NameId;
-use ix_rec::Direction;
+use ix_rec::{Direction, Place, Word};
 use ix_strings::Names;
+use std::alloc::Global;
 
 /// What a struct's numbers are asked against, and the names.
 #[derive(Drop)]
 pub struct Context<'n> {
+    /// Where memory is taken from.
+    pub alloc: Global,
     /// The names of the run, those of the message among them.
     pub names: &'n Names,
     /// The names of the string table.
@@ -34,15 +37,18 @@ pub struct Context<'n> {
 }
 
 /// The field of the last struct of this kind is out of its list.
-pub fn out_of_list(walk: &Walk, place: usize, kind: &'static str, field: &'static str) -> Stop
+fn out_of_list(alloc: Global, walk: &Walk, place: usize, kind: &str, field: &str) -> Stop
     requires { place < KINDS }
     ensures { IsOutOfList walk.now place kind.now field.now result }
 {
-    Stop::OutOfList {
-        kind,
-        field,
-        index: walk.count(place).saturating_sub(1),
-    }
+    let index = walk.count(place).saturating_sub(1);
+    let Ok(kind) = Word::new(alloc, kind) else {
+        return Stop::Memory;
+    };
+    let Ok(field) = Word::new(alloc, field) else {
+        return Stop::Memory;
+    };
+    Stop::OutOfList(Place::Item { kind, field, index })
 }
 
 impl<'n> Context<'n> {
@@ -51,8 +57,8 @@ impl<'n> Context<'n> {
         &self,
         walk: &Walk,
         place: usize,
-        kind: &'static str,
-        field: &'static str,
+        kind: &str,
+        field: &str,
         n: u32,
     ) -> Result<NameId, Stop>
         requires { place < KINDS }
@@ -61,7 +67,7 @@ impl<'n> Context<'n> {
         if (n as usize) < self.strings.len() {
             Ok(self.strings[n as usize])
         } else {
-            Err(out_of_list(walk, place, kind, field))
+            Err(out_of_list(self.alloc, walk, place, kind, field))
         }
     }
 }
@@ -71,8 +77,8 @@ pub fn direction(
     ctx: &Context<'_>,
     walk: &Walk,
     place: usize,
-    kind: &'static str,
-    field: &'static str,
+    kind: &str,
+    field: &str,
     n: u16,
 ) -> Result<Direction, Stop>
     requires { place < KINDS }
@@ -82,6 +88,6 @@ pub fn direction(
         0 => Ok(Direction::Input),
         1 => Ok(Direction::Output),
         2 => Ok(Direction::Inout),
-        _ => Err(out_of_list(walk, place, kind, field)),
+        _ => Err(out_of_list(ctx.alloc, walk, place, kind, field)),
     }
 }

@@ -8,7 +8,6 @@ use crate::context::Context;
 use crate::stop::Stop;
 use crate::walk::Walk;
 use ix_rec::Items;
-use std::alloc::Global;
 
 /// A struct whose numbers are asked and become a part of the record.
 pub trait Finish: Sized + Drop {
@@ -26,22 +25,21 @@ pub trait Finish: Sized + Drop {
     ghost record_by: { List Text → Self.Part → Value Datum shape };
 
     /// The part of the record that these numbers make, or the first that is out of its list, in reading order.
-    fn finish(self, alloc: Global, ctx: &Context<'_>, walk: &mut Walk) -> Result<Self::Part, Stop>
+    fn finish(self, ctx: &Context<'_>, walk: &mut Walk) -> Result<Self::Part, Stop>
         ensures { MeetsWith (record_by ctx.now.names.now) result walk.new (finish_at shape (sizes_of ctx.now) (numbers self) walk.old) };
 }
 
 /// The same of each struct of a list.
 pub fn finish_list<T: Finish>(
-    alloc: Global,
     list: Items<T>,
     ctx: &Context<'_>,
     walk: &mut Walk,
 ) -> Result<Items<T::Part>, Stop>
     ensures { MeetsWith (map (T.record_by ctx.now.names.now)) result walk.new (finish_each (finish_at T.shape (sizes_of ctx.now)) (map T.numbers list) walk.old) }
 {
-    let mut found = Items::with_capacity(alloc, list.len())?;
+    let mut found = Items::with_capacity(ctx.alloc, list.len())?;
     for one in list.into_vec() {
-        let one = match one.finish(alloc, ctx, walk) {
+        let one = match one.finish(ctx, walk) {
             Ok(one) => one,
             Err(stop) => return Err(stop),
         };

@@ -8,7 +8,6 @@ use crate::stop::Stop;
 use crate::walk::Walk;
 use ix_device_raw::RawBelPin;
 use ix_rec::BelPin;
-use std::alloc::Global;
 
 impl Finish for RawBelPin {
     ghost use Rattle.ix_message.specs.Device.{bel_pin};
@@ -24,7 +23,7 @@ impl Finish for RawBelPin {
     ghost record_by = { bel_pin_record };
 
     #[tactic(auto, unfolding(crate::specs::Finish::finish_at, crate::specs::Finish::finish_row))]
-    fn finish(self, _alloc: Global, ctx: &Context<'_>, walk: &mut Walk) -> Result<BelPin, Stop> {
+    fn finish(self, ctx: &Context<'_>, walk: &mut Walk) -> Result<BelPin, Stop> {
         walk.begin(0);
         let name = ctx.name(walk, 0, "BELPin", "name", self.name)?;
         let dir = direction(ctx, walk, 0, "BELPin", "dir", self.dir)?;

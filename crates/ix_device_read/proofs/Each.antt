@@ -1,12 +1,13 @@
 -- Finishing the structs of a list one after the other, as a loop does that has finished some and goes on with the rest.
-use Rattle.std.proofs.Common.{◌≡◌, ℕ, ◌+◌, List, [], ◌∷◌, ◌++◌, length, Result, Ok, Err, refl, sym, ap, ◌∙◌, append_assoc, arith}
-use Rattle.std.proofs.lemmas.List.{append-nil}
+use Rattle.std.proofs.Common.{◌≡◌, ℕ, ◌+◌, ◌<◌, ◌≤◌, List, [], ◌∷◌, ◌++◌, length, drop, slice_get, Some, Result, Ok, Err, refl, sym, ap, ◌∙◌, append_assoc, add-one, drop-cons, arith}
+use Rattle.std.proofs.lemmas.Option.{get_or_from_slice_get}
+use Rattle.std.proofs.lemmas.List.{append-nil, drop_all}
 use Rattle.ix_frame.specs.Result.{◌>>=◌}
 use Rattle.ix_device_read.specs.declared.stop.Stop.{Stop}
 use Rattle.ix_device_read.specs.declared.stop.Stop.TheVariants.{OutOfList, Unnamed, Memory}
 use Rattle.ix_rec.specs.declared.place.Place.{Place}
 use Rattle.ix_rec.specs.declared.place.Place.TheVariants.{Item}
-use Rattle.ix_device_read.specs.Finish.{Stopped, bad, unnamed, finish_each}
+use Rattle.ix_device_read.specs.Finish.{Stopped, bad, unnamed, finish_each, each_alone}
 use Rattle.ix_device_read.specs.Views.{Stops, IsBadAt}
 
 -- what was finished before, and what is still finished
@@ -64,3 +65,45 @@ nothing_left (x ∷ xs) n none is = absurd (omega (arith, none, is))
 
 pub one_left : {A : Type 0} (all : List A) (x : A) (xs : List A) (n after : ℕ) → all ≡ x ∷ xs → after + 1 ≡ n → n ≡ length all → after ≡ length xs
 one_left all x xs n after is less long = let e : length all ≡ length xs + 1 = rw is (omega arith) in omega (arith, e, less, long)
+
+-- The same of the items of a list of numbers or texts.
+abbrev pub behind_some : {B : Type 0} → List B → Result (List B) Stopped → Result (List B) Stopped
+behind_some front rest = rest >>= λ x. Ok (front ++ x)
+
+regroup_some : {B : Type 0} (front : List B) (n : B) (rest : Result (List B) Stopped) → behind_some front (rest >>= λ x. Ok (n ∷ x)) ≡ behind_some (front ++ n ∷ []) rest
+regroup_some {B} front n (Ok x) = ap Ok (simp append_assoc)
+regroup_some front n (Err f) = refl
+
+-- the items from the i-th on
+pub items_from : {A : Type 0} (xs : List A) (i : ℕ) (x : A) → i < length xs → slice_get xs i ≡ Some x → drop i xs ≡ x ∷ drop (i + 1) xs
+items_from xs i x lt at = drop-cons xs i x lt ∙ rw (get_or_from_slice_get xs i x x at, add-one) refl
+
+-- past the end there are none
+pub no_items : {A : Type 0} (xs : List A) (i : ℕ) → length xs ≤ i → drop i xs ≡ []
+no_items xs i le = drop_all i xs le
+
+pub alone_more : {A B : Type 0} (ask : A → Result B Stopped) (front : List B) (x : A) (xs all : List A) (y : B) (total : Result (List B) Stopped)
+    → all ≡ x ∷ xs → ask x ≡ Ok y → behind_some front (each_alone ask all) ≡ total → behind_some (front ++ y ∷ []) (each_alone ask xs) ≡ total
+unfolding each_alone
+alone_more ask front x xs all y total is h so_far =
+    let one : behind_some front (each_alone ask all) ≡ behind_some (front ++ y ∷ []) (each_alone ask xs) = rw (is, h) (regroup_some front y (each_alone ask xs)) in
+    sym one ∙ so_far
+
+alone_fails : {A B : Type 0} (f : Stopped) (ask : A → Result B Stopped) (front : List B) (x : A) (xs all : List A) (total : Result (List B) Stopped)
+    → all ≡ x ∷ xs → ask x ≡ Err f → behind_some front (each_alone ask all) ≡ total → total ≡ Err f
+unfolding each_alone
+alone_fails f ask front x xs all total is h so_far =
+    let one : behind_some front (each_alone ask all) ≡ Err f = rw (is, h) refl in
+    sym so_far ∙ one
+
+pub alone_stops : {A B : Type 0} (e : Stop) (ask : A → Result B Stopped) (front : List B) (x : A) (xs all : List A) (total : Result (List B) Stopped)
+    → all ≡ x ∷ xs → Stops e (ask x) → behind_some front (each_alone ask all) ≡ total → Stops e total
+alone_stops e ask front x xs all total is h so_far =
+    stops_on e (ask x) total h (λ f at. alone_fails f ask front x xs all total is at so_far)
+
+pub alone_done : {A B : Type 0} (ask : A → Result B Stopped) (front : List B) (all : List A) (total : Result (List B) Stopped)
+    → all ≡ [] → behind_some front (each_alone ask all) ≡ total → total ≡ Ok front
+unfolding each_alone
+alone_done ask front all total is so_far =
+    let one : behind_some front (each_alone ask all) ≡ Ok front = rw is (ap Ok (append-nil front)) in
+    sym so_far ∙ one

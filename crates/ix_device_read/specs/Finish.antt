@@ -3,9 +3,10 @@
 use Prim.Native.String.{String}
 use Rattle.std.specs.Prelude.{◌≡◌, ℕ, zero, suc, ◌+◌, ◌-◌, ◌^◌, min, List, [], ◌∷◌, length, map, Bool, true, false, nat_lt, codes, Option, Some, None, Result, Ok, Err, if◌then◌else◌, slice_index, slice_index_or, slice_set}
 use Rattle.ix_frame.specs.Result.{◌>>=◌}
-use Rattle.ix_message.specs.Shape.{Text, Target, Kind, Field, Struct, Pointers, Branches, Value, Parts, nowhere, strings, site_types, tile_types, wires, bel_pins, tile_wires, cell_decls, ports, instances, number, flag, nothing, choice, name, index, site_of_tile, port_of_owner, bus_tag, bus_bit, instance_of_cell, by_tag, struct_of, no_more, text, texts, numbers, struct, struct_or_none, boxed, structs, branches, string_table, unread, ends, branch}
-use Rattle.ix_message.specs.Names.{Datum, the_number, the_text, same_text, kind_in, datum_of, has_text}
+use Rattle.ix_message.specs.Shape.{Text, Target, Kind, Field, field, Struct, Pointers, Branches, Value, Parts, nowhere, strings, site_types, tile_types, wires, bel_pins, tile_wires, cell_decls, ports, instances, number, flag, nothing, choice, name, index, site_of_tile, port_of_owner, bus_tag, bus_bit, instance_of_cell, by_tag, struct_of, no_more, text, texts, numbers, struct, struct_or_none, boxed, structs, branches, string_table, unread, ends, branch}
+use Rattle.ix_message.specs.Names.{Datum, the_number, the_text, same_text, kind_in, datum_of}
 use Rattle.ix_message.specs.Indexes.{Item}
+use Rattle.ix_strings.specs.Names.{number_of}
 
 -- how many there are in each list that an index leads into, the texts of the string table and of the names, and the
 -- type of the tile around
@@ -56,6 +57,10 @@ pub data Stopped : Type 0 where
 abbrev pub field_at : List ℕ → ℕ → Text → Text → Item
 field_at counts place kind called = record { kind = kind; field = called; index = slice_index counts place - 1 }
 
+-- the number, where it is below this
+abbrev pub below : List ℕ → ℕ → Text → Text → ℕ → ℕ → Result Datum Stopped
+below counts place kind called limit n = if nat_lt n limit then Ok (the_number n) else Err (bad (field_at counts place kind called))
+
 abbrev pub asked_at : Sizes → List ℕ → ℕ → Text → Text → Kind → ℕ → Result Datum Stopped
 asked_at z counts place kind called k n =
     if is_in z k n then Ok (datum_of z.table k n) else Err (bad (field_at counts place kind called))
@@ -72,24 +77,30 @@ finish_row z counts kind row (f ∷ fs) (n ∷ ns) = do
 finish_row z counts kind row [] ns = Ok []
 finish_row z counts kind row (f ∷ fs) [] = Ok []
 
--- a list of numbers of one kind
-unfoldable pub finish_numbers : Sizes → List ℕ → ℕ → Text → Text → Kind → List ℕ → Result (List Datum) Stopped
-finish_numbers z counts place kind called k [] = Ok []
-finish_numbers z counts place kind called k (n ∷ ns) = do
-  first ← asked_at z counts place kind called k n
-  others ← finish_numbers z counts place kind called k ns
+-- The fields of a BEL from its inversion's tag on, and those of a package pin from its site's tag on.
+abbrev pub inversion_asked : Sizes → List ℕ → ℕ → ℕ → ℕ → Result (List Datum) Stopped
+inversion_asked z counts tag a b =
+    finish_row z counts "BEL" (0 ∷ 0 ∷ tag ∷ a ∷ b ∷ []) (field "inversion_tag" (choice 2) ∷ field "nonInvertingPin" (by_tag 2 1 (index bel_pins) nothing) ∷ field "invertingPin" (by_tag 2 1 (index bel_pins) nothing) ∷ []) (tag ∷ a ∷ b ∷ [])
+
+abbrev pub site_asked : Sizes → List ℕ → ℕ → ℕ → Result (List Datum) Stopped
+site_asked z counts tag site =
+    finish_row z counts "PackagePin" (0 ∷ tag ∷ site ∷ []) (field "site_tag" (choice 2) ∷ field "site" (by_tag 1 1 name nothing) ∷ []) (tag ∷ site ∷ [])
+
+-- each item of a list
+unfoldable pub each_alone : {A B : Type 0} → (A → Result B Stopped) → List A → Result (List B) Stopped
+each_alone ask [] = Ok []
+each_alone ask (x ∷ xs) = do
+  first ← ask x
+  others ← each_alone ask xs
   Ok (first ∷ others)
 
 -- a text is one of the names
-abbrev pub known : Sizes → Text → Result Text Stopped
-known z t = if has_text z.names t then Ok t else Err unnamed
+abbrev pub when_known : Option ℕ → Text → Result Text Stopped
+when_known (Some id) t = Ok t
+when_known None t = Err unnamed
 
-unfoldable pub all_known : Sizes → List Text → Result (List Text) Stopped
-all_known z [] = Ok []
-all_known z (t ∷ ts) = do
-  first ← known z t
-  others ← all_known z ts
-  Ok (first ∷ others)
+abbrev pub known : Sizes → Text → Result Text Stopped
+known z t = when_known (number_of z.names t) t
 
 -- each struct of a list, with the counts so far
 unfoldable pub finish_each : {A B : Type 0} → (A → List ℕ → Result (B × List ℕ) Stopped) → List A → List ℕ → Result (List B × List ℕ) Stopped
@@ -139,11 +150,11 @@ unfoldable mutual
     rest ← finish_parts ps kind z v.1 counts
     Ok ((here, rest.0), rest.1)
   finish_parts (texts c ps) kind z v counts = do
-    here ← all_known z v.0
+    here ← each_alone (known z) v.0
     rest ← finish_parts ps kind z v.1 counts
     Ok ((here, rest.0), rest.1)
   finish_parts (numbers c target k ps) kind z v counts = do
-    here ← finish_numbers z counts (place_of device_kinds kind) (codes kind) (codes c) k v.0
+    here ← each_alone (asked z counts kind c k) v.0
     rest ← finish_parts ps kind z v.1 counts
     Ok ((here, rest.0), rest.1)
   finish_parts (struct c s ps) kind z v counts = do

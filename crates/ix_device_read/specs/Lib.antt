@@ -1,2 +1,4 @@
 pub mod Finish
+pub mod Numbers
+pub mod Records
 pub mod Views

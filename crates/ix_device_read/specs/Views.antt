@@ -1,21 +1,13 @@
 -- What the values of this crate are.
 use Rattle.std.specs.Prelude.{◌≡◌, ℕ, ◌-◌, List, [], ◌∷◌, map, Result, Ok, Err, slice_index, slice_index_or}
-use Rattle.ix_rec.specs.declared.device.Direction.{Direction}
-use Rattle.ix_rec.specs.declared.device.Direction.TheVariants.{Input, Output, Inout}
-use Rattle.ix_rec.specs.declared.device.BelPin.{BelPin}
 use Rattle.ix_rec.specs.declared.place.Place.{Place}
 use Rattle.ix_rec.specs.declared.place.Place.TheVariants.{Item}
-use Rattle.ix_message.specs.Shape.{Text, Value}
-use Rattle.ix_message.specs.Names.{Datum, the_number, the_text}
-use Rattle.ix_message.specs.Device.{bel_pin}
+use Rattle.ix_message.specs.Shape.{Text}
 use Rattle.ix_device_read.specs.declared.context.Context.{Context}
 use Rattle.ix_device_read.specs.declared.stop.Stop.{Stop}
 use Rattle.ix_device_read.specs.declared.stop.Stop.TheVariants.{OutOfList, Unnamed, Memory}
+use Rattle.ix_device_read.specs.Numbers.{name_text}
 use Rattle.ix_device_read.specs.Finish.{Sizes, Stopped, bad, unnamed, field_at}
-
--- the text of a name
-abbrev pub name_text : List Text → ℕ → Text
-name_text names id = slice_index_or names id []
 
 -- what a context says of the lists
 abbrev pub sizes_of : Context → Sizes
@@ -59,11 +51,3 @@ Meets view (Err e) given = Stops e given
 abbrev pub MeetsWith : {X Y : Type 0} → (X → Y) → Result X Stop → List ℕ → Result (Y × List ℕ) Stopped → Type 0
 MeetsWith view (Ok x) now given = given ≡ Ok (view x, now)
 MeetsWith view (Err e) now given = Stops e given
-
-abbrev pub direction_number : Direction → ℕ
-direction_number Input = 0
-direction_number Output = 1
-direction_number Inout = 2
-
-abbrev pub bel_pin_record : List Text → BelPin → Value Datum bel_pin
-bel_pin_record names p = (the_text (name_text names p.name) ∷ the_number (direction_number p.dir) ∷ the_text (name_text names p.bel) ∷ [], tt)

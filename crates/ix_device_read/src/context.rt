@@ -1,15 +1,16 @@
 //! What a struct's numbers are asked against.
 
-ghost use Rattle.std.specs.Prelude.{◌≡◌, ◌<◌};
-ghost use Rattle.ix_message.specs.Shape.{name, choice};
+ghost use Rattle.std.specs.Prelude.{◌≡◌, ◌<◌, slice_index, IfOk};
+ghost use Rattle.ix_message.specs.Shape.{name};
 ghost use Rattle.ix_message.specs.Names.{the_text, the_number};
-ghost use Rattle.ix_device_read.specs.Finish.{asked_at};
-ghost use Rattle.ix_device_read.specs.Views.{sizes_of, name_text, direction_number, IsOutOfList, Meets};
+ghost use Rattle.ix_device_read.specs.Finish.{asked_at, below, known};
+ghost use Rattle.ix_device_read.specs.Numbers.{name_text};
+ghost use Rattle.ix_device_read.specs.Views.{sizes_of, IsOutOfList, Meets};
 
 use crate::stop::Stop;
 use crate::walk::{KINDS, Walk};
 use ix_num::NameId;
-use ix_rec::{Direction, Place, Word};
+use ix_rec::{Place, Word};
 use ix_strings::Names;
 use std::alloc::Global;
 
@@ -32,12 +33,12 @@ pub struct Context<'n> {
     pub bel_pins: usize,
     /// How many wires the tile type around has.
     pub tile_wires: usize,
-    /// The type of the tile around.
+    /// The second number of the struct around, which of a tile is its type.
     pub tile_type: u32,
 }
 
 /// The field of the last struct of this kind is out of its list.
-fn out_of_list(alloc: Global, walk: &Walk, place: usize, kind: &str, field: &str) -> Stop
+pub fn out_of_list(alloc: Global, walk: &Walk, place: usize, kind: &str, field: &str) -> Stop
     requires { place < KINDS }
     ensures { IsOutOfList walk.now place kind.now field.now result }
 {
@@ -52,6 +53,51 @@ fn out_of_list(alloc: Global, walk: &Walk, place: usize, kind: &str, field: &str
 }
 
 impl<'n> Context<'n> {
+    /// The same within a struct whose second number is this.
+    pub fn inside(&self, second: u32) -> Context<'n>
+        ensures { result ≡ record self.now { tile_type = second } }
+    {
+        Context {
+            alloc: self.alloc,
+            names: self.names,
+            strings: self.strings,
+            site_types: self.site_types,
+            tile_types: self.tile_types,
+            wires: self.wires,
+            bel_pins: self.bel_pins,
+            tile_wires: self.tile_wires,
+            tile_type: second,
+        }
+    }
+
+    /// The same within a site type with so many BEL pins.
+    pub fn inside_site_type(&self, bel_pins: usize) -> Context<'n>
+        ensures { result ≡ record self.now { tile_type = 0; bel_pins = bel_pins } }
+    {
+        let mut inner = self.inside(0);
+        inner.bel_pins = bel_pins;
+        inner
+    }
+
+    /// The same within a tile type with so many wires.
+    pub fn inside_tile_type(&self, tile_wires: usize) -> Context<'n>
+        ensures { result ≡ record self.now { tile_type = 0; tile_wires = tile_wires } }
+    {
+        let mut inner = self.inside(0);
+        inner.tile_wires = tile_wires;
+        inner
+    }
+
+    /// How many types the sites of the tile around have.
+    pub fn site_types_of_tile(&self) -> usize
+        ensures { result ≡ slice_index self.now.tile_types.now self.now.tile_type }
+    {
+        match self.tile_types.get(self.tile_type as usize) {
+            Some(count) => *count as usize,
+            None => 0,
+        }
+    }
+
     /// The name with this place in the string table.
     pub fn name(
         &self,
@@ -70,24 +116,36 @@ impl<'n> Context<'n> {
             Err(out_of_list(self.alloc, walk, place, kind, field))
         }
     }
-}
 
-/// The direction with this number.
-pub fn direction(
-    ctx: &Context<'_>,
-    walk: &Walk,
-    place: usize,
-    kind: &str,
-    field: &str,
-    n: u16,
-) -> Result<Direction, Stop>
-    requires { place < KINDS }
-    ensures { Meets (λ d. the_number (direction_number d)) result (asked_at (sizes_of ctx.now) walk.now place kind.now field.now (choice 3) n) }
-{
-    match n {
-        0 => Ok(Direction::Input),
-        1 => Ok(Direction::Output),
-        2 => Ok(Direction::Inout),
-        _ => Err(out_of_list(ctx.alloc, walk, place, kind, field)),
+    /// The number, where it is below the length of its list.
+    pub fn index(
+        &self,
+        walk: &Walk,
+        place: usize,
+        kind: &str,
+        field: &str,
+        limit: usize,
+        n: u32,
+    ) -> Result<u32, Stop>
+        requires { place < KINDS }
+        ensures exact { Meets the_number result (below walk.now place kind.now field.now limit n) }
+        ensures same { IfOk result (λ r. r ≡ n) }
+    {
+        if (n as usize) < limit {
+            Ok(n)
+        } else {
+            Err(out_of_list(self.alloc, walk, place, kind, field))
+        }
+    }
+
+    /// The name that the text is.
+    #[tactic(auto, using(std::proofs::lemmas::Option::get_or_from_slice_get))]
+    pub fn text(&self, text: &str) -> Result<NameId, Stop>
+        ensures { Meets (name_text self.now.names.now) result (known (sizes_of self.now) text.now) }
+    {
+        match self.names.find(text) {
+            Some(id) => Ok(id),
+            None => Err(Stop::Unnamed),
+        }
     }
 }

@@ -1,8 +1,17 @@
 //! The reader of device resources.
 #![tactic(auto)]
 
+mod cell_map;
+mod choices;
 mod context;
 mod finish;
+mod inversion;
+mod lists;
+mod lut;
+mod package;
+mod package_pin_site;
 mod site_type;
 mod stop;
+mod tile;
+mod tile_type;
 mod walk;

@@ -1,0 +1,25 @@
+use Rattle.std.proofs.Common.{◌≡◌, ◌++◌, ◌+◌, ◌<◌, ◌≤◌, ◌∷◌, [], ℕ, List, map, take, drop, length, ap, arith, sym, ◌∙◌}
+use Rattle.std.proofs.lemmas.List.{map_push, map_more, take_all}
+use Rattle.ix_message.specs.Shape.{name}
+use Rattle.ix_message.specs.Names.{the_text, the_number}
+use Rattle.ix_device_read.specs.Finish.{asked_at, below, known, each_alone}
+use Rattle.ix_device_read.specs.Numbers.{name_text}
+use Rattle.ix_device_read.specs.Views.{sizes_of}
+use Rattle.ix_device_read.proofs.Each.{items_from, no_items, alone_more, alone_stops, alone_done}
+use Rattle.ix_device_read.proofs.lists.names_of.Goals as goal
+
+pub returns-in-Err : goal.returns-in-Err
+returns-in-Err c =
+    let lt : c.loop-i.i < length c.args.list.now = omega arith in
+    alone_stops c.in-Err.stop (asked_at (sizes_of c.args.ctx.now) c.args.walk.now c.args.place c.args.kind.now c.args.field.now name) (map (λ (id : ℕ). the_text (name_text c.args.ctx.now.names.now id)) c.loop-i.found) c.at.result.now (drop (c.loop-i.i + 1) c.args.list.now) (drop c.loop-i.i c.args.list.now) (each_alone (asked_at (sizes_of c.args.ctx.now) c.args.walk.now c.args.place c.args.kind.now c.args.field.now name) c.args.list.now) (items_from c.args.list.now c.loop-i.i c.at.result.now lt c.at.ensures) c.in-Err.ensures c.loop-i.invariant
+
+pub loop-i-preserved : goal.loop-i-preserved
+loop-i-preserved c =
+    let lt : c.loop-i.i < length c.args.list.now = omega arith in
+    let e : map (λ (id : ℕ). the_text (name_text c.args.ctx.now.names.now id)) c.push.new.self ≡ map (λ (id : ℕ). the_text (name_text c.args.ctx.now.names.now id)) c.loop-i.found ++ (λ (id : ℕ). the_text (name_text c.args.ctx.now.names.now id)) c.in-Ok.id ∷ [] = rw c.in_ok-push.ensures.ok (map_push (λ (id : ℕ). the_text (name_text c.args.ctx.now.names.now id)) c.loop-i.found c.in-Ok.id) in
+    rw e (alone_more (asked_at (sizes_of c.args.ctx.now) c.args.walk.now c.args.place c.args.kind.now c.args.field.now name) (map (λ (id : ℕ). the_text (name_text c.args.ctx.now.names.now id)) c.loop-i.found) c.at.result.now (drop (c.loop-i.i + 1) c.args.list.now) (drop c.loop-i.i c.args.list.now) ((λ (id : ℕ). the_text (name_text c.args.ctx.now.names.now id)) c.in-Ok.id) (each_alone (asked_at (sizes_of c.args.ctx.now) c.args.walk.now c.args.place c.args.kind.now c.args.field.now name) c.args.list.now) (items_from c.args.list.now c.loop-i.i c.at.result.now lt c.at.ensures) c.in-Ok.ensures c.loop-i.invariant)
+
+pub returns : goal.returns
+returns c =
+    let le : length c.args.list.now ≤ c.loop-i.i = omega arith in
+    (alone_done (asked_at (sizes_of c.args.ctx.now) c.args.walk.now c.args.place c.args.kind.now c.args.field.now name) (map (λ (id : ℕ). the_text (name_text c.args.ctx.now.names.now id)) c.loop-i.found) (drop c.loop-i.i c.args.list.now) (each_alone (asked_at (sizes_of c.args.ctx.now) c.args.walk.now c.args.place c.args.kind.now c.args.field.now name) c.args.list.now) (no_items c.args.list.now c.loop-i.i le) c.loop-i.invariant)

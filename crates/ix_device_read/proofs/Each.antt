@@ -37,6 +37,13 @@ stops_on Memory given total h on = tt
 stops_on Unnamed given total h on = on unnamed h
 stops_on (OutOfList p) given total h on = bad_stops p given total h on
 
+err_first : {X Y : Type 0} (f : Stopped) (given : Result X Stopped) (next : X → Result Y Stopped) → given ≡ Err f → given >>= next ≡ Err f
+err_first f given next at = rw at refl
+
+-- what stops a step stops the steps that begin with it
+pub stops_first : {X Y : Type 0} (e : Stop) (given : Result X Stopped) (next : X → Result Y Stopped) → Stops e given → Stops e (given >>= next)
+stops_first e given next h = stops_on e given (given >>= next) h (λ f at. err_first f given next at)
+
 -- one can't be finished, so the list can't
 each_stops : {A B : Type 0} (f : Stopped) (finish : A → List ℕ → Result (B × List ℕ) Stopped) (front : List B) (x : A) (xs all : List A) (counts : List ℕ) (total : Result (List B × List ℕ) Stopped)
     → all ≡ x ∷ xs → finish x counts ≡ Err f → behind_front front (finish_each finish all counts) ≡ total → total ≡ Err f

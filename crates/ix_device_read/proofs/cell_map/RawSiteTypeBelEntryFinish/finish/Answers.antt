@@ -1,0 +1,17 @@
+use Rattle.std.proofs.Common.{◌≡◌, refl, rules}
+use Rattle.std.proofs.lemmas.Result.{err_from_is_err_and}
+use Rattle.ix_device_read.specs.Finish.{finish_at, finish_row}
+use Rattle.ix_device_read.proofs.Each.{stops_first}
+use Rattle.ix_device_read.proofs.cell_map.RawSiteTypeBelEntryFinish.finish.Goals as goal
+
+pub returns-in_err-bels : goal.returns-in_err-bels
+unfolding finish_at finish_row
+returns-in_err-bels c =
+    let p = err_from_is_err_and c.from_residual-in_err-bels.result c.from_residual-in_err-bels.ensures.1 in
+    rw (p.1, p.2, ← c.begin.ensures, c.in_ok-site_type.ensures) (stops_first c.in_err-bels.field-0.0 _ _ (stops_first c.in_err-bels.field-0.0 _ _ (c.in_err-bels.ensures)))
+
+pub returns : goal.returns
+unfolding finish_at finish_row
+returns c =
+    let h0 = c.in_ok-bels.ensures in
+    rw (← c.begin.ensures, c.in_ok-site_type.ensures, h0) refl

@@ -1,0 +1,19 @@
+use Rattle.std.proofs.Common.{◌≡◌, refl, rules}
+use Rattle.std.proofs.lemmas.Result.{err_from_is_err_and}
+use Rattle.ix_device_read.specs.Finish.{finish_at, finish_row}
+use Rattle.ix_device_read.proofs.Each.{stops_first}
+use Rattle.ix_device_read.proofs.lut.RawLutDefinitionsFinish.finish.Goals as goal
+
+pub returns-in_err-lut_elements : goal.returns-in_err-lut_elements
+unfolding finish_at finish_row
+returns-in_err-lut_elements c =
+    let p = err_from_is_err_and c.from_residual-in_err-lut_elements.result c.from_residual-in_err-lut_elements.ensures.1 in
+    let h0 = rw c.inside-inner.ensures at c.in_ok-lut_cells.ensures in
+    rw (p.1, p.2, ← c.begin.ensures, h0) (stops_first c.in_err-lut_elements.field-0.0 _ _ (stops_first c.in_err-lut_elements.field-0.0 _ _ (stops_first c.in_err-lut_elements.field-0.0 _ _ (rw c.inside-inner.ensures at c.in_err-lut_elements.ensures))))
+
+pub returns : goal.returns
+unfolding finish_at finish_row
+returns c =
+    let h0 = rw c.inside-inner.ensures at c.in_ok-lut_cells.ensures in
+    let h1 = rw c.inside-inner.ensures at c.in_ok-lut_elements.ensures in
+    rw (← c.begin.ensures, h0, h1) refl

@@ -1,0 +1,17 @@
+use Rattle.std.proofs.Common.{◌≡◌, refl, rules}
+use Rattle.std.proofs.lemmas.Result.{err_from_is_err_and}
+use Rattle.ix_device_read.specs.Finish.{finish_at, finish_row}
+use Rattle.ix_device_read.proofs.Each.{stops_first}
+use Rattle.ix_device_read.proofs.tile_type.RawSiteTypeInTileTypeFinish.finish.Goals as goal
+
+pub returns-in_err-primary_pins_to_tile_wires : goal.returns-in_err-primary_pins_to_tile_wires
+unfolding finish_at finish_row
+returns-in_err-primary_pins_to_tile_wires c =
+    let p = err_from_is_err_and c.from_residual-in_err-primary_pins_to_tile_wires.result c.from_residual-in_err-primary_pins_to_tile_wires.ensures.1 in
+    rw (p.1, p.2, ← c.begin.ensures, c.in_ok-primary_type.ensures.exact) (stops_first c.in_err-primary_pins_to_tile_wires.field-0.0 _ _ (stops_first c.in_err-primary_pins_to_tile_wires.field-0.0 _ _ (c.in_err-primary_pins_to_tile_wires.ensures)))
+
+pub returns : goal.returns
+unfolding finish_at finish_row
+returns c =
+    let h0 = c.in_ok-primary_pins_to_tile_wires.ensures in
+    rw (← c.begin.ensures, c.in_ok-primary_type.ensures.exact, h0) refl

@@ -1,16 +1,18 @@
 //! What a struct's numbers are asked against.
 
-ghost use Rattle.std.specs.Prelude.{◌≡◌, ◌<◌, slice_index, IfOk};
+ghost use Rattle.std.specs.Prelude.{◌≡◌, ◌<◌, slice_index, length, map, IfOk};
 ghost use Rattle.ix_message.specs.Shape.{name};
 ghost use Rattle.ix_message.specs.Names.{the_text, the_number};
+ghost use Rattle.ix_device_raw.specs.Raw.{bel_pin_numbers};
 ghost use Rattle.ix_device_read.specs.Finish.{asked_at, below, known};
 ghost use Rattle.ix_device_read.specs.Numbers.{name_text};
 ghost use Rattle.ix_device_read.specs.Views.{sizes_of, IsOutOfList, Meets};
 
 use crate::stop::Stop;
 use crate::walk::{KINDS, Walk};
+use ix_device_raw::RawBelPin;
 use ix_num::NameId;
-use ix_rec::{Place, Word};
+use ix_rec::{Items, Place, Word};
 use ix_strings::Names;
 use std::alloc::Global;
 
@@ -70,21 +72,23 @@ impl<'n> Context<'n> {
         }
     }
 
-    /// The same within a site type with so many BEL pins.
-    pub fn inside_site_type(&self, bel_pins: usize) -> Context<'n>
-        ensures { result ≡ record self.now { tile_type = 0; bel_pins = bel_pins } }
+    /// The same within a site type with these BEL pins.
+    pub fn inside_site_type(&self, bel_pins: &Items<RawBelPin>) -> Context<'n>
+        ensures { result ≡ record self.now { tile_type = 0; bel_pins = length (map bel_pin_numbers bel_pins.now) } }
     {
+        let count = bel_pins.len();
         let mut inner = self.inside(0);
-        inner.bel_pins = bel_pins;
+        inner.bel_pins = count;
         inner
     }
 
-    /// The same within a tile type with so many wires.
-    pub fn inside_tile_type(&self, tile_wires: usize) -> Context<'n>
-        ensures { result ≡ record self.now { tile_type = 0; tile_wires = tile_wires } }
+    /// The same within a tile type with these wires.
+    pub fn inside_tile_type(&self, wires: &Items<u32>) -> Context<'n>
+        ensures { result ≡ record self.now { tile_type = 0; tile_wires = length wires.now } }
     {
+        let count = wires.len();
         let mut inner = self.inside(0);
-        inner.tile_wires = tile_wires;
+        inner.tile_wires = count;
         inner
     }
 

@@ -170,7 +170,7 @@ impl Finish for RawSiteType {
             site_wires,
         } = self;
         walk.begin(5);
-        let inner = ctx.inside_site_type(bel_pins.len());
+        let inner = ctx.inside_site_type(&bel_pins);
         let name = ctx.name(walk, 5, "SiteType", "name", name)?;
         let bel_pins = finish_list(bel_pins, &inner, walk)?;
         let pins = finish_list(pins, &inner, walk)?;

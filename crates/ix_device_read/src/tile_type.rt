@@ -141,7 +141,7 @@ impl Finish for RawTileType {
             constants,
         } = self;
         walk.begin(9);
-        let inner = ctx.inside_tile_type(wires.len());
+        let inner = ctx.inside_tile_type(&wires);
         let name = ctx.name(walk, 9, "TileType", "name", name)?;
         let site_types = finish_list(site_types, &inner, walk)?;
         let wires = names_of(ctx, walk, 9, "TileType", "wires", &wires)?;

@@ -14,4 +14,4 @@ pub returns : goal.returns
 unfolding finish_at finish_row
 returns c =
     let h0 = c.in_ok-primary_pins_to_tile_wires.ensures in
-    rw (← c.begin.ensures, c.in_ok-primary_type.ensures.exact, h0) refl
+    rw (← c.begin.ensures, c.in_ok-primary_type.ensures.exact, h0, c.new.ensures) refl

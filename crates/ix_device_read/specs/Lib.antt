@@ -1,4 +1,5 @@
 pub mod Finish
 pub mod Numbers
 pub mod Records
+pub mod Sizes
 pub mod Views

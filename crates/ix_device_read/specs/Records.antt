@@ -1,10 +1,11 @@
 -- What the parts of a device record say: their data, and what their pointers lead to, with names as texts.
 use Rattle.std.specs.Prelude.{ℕ, List, [], ◌∷◌, ◌++◌, map}
 use Rattle.ix_message.specs.Shape.{Text, Value}
-use Rattle.ix_message.specs.Names.{Datum, the_number, the_text}
+use Rattle.ix_message.specs.Names.{Datum, the_number, the_text, option_with}
 use Rattle.ix_message_read.specs.Tells.{flag_number}
 use Rattle.ix_device_read.specs.Numbers.{name_text, direction_number, category_number, constant_number, pip_kind_number, equation_number, inversion_data, site_data}
-use Rattle.ix_message.specs.Device.{bel_pin, site_pin, bel, site_pip, site_wire, site_type, site_type_in_tile_type, pip, wire_constant_sources, tile_type, site, tile, wire, node, site_type_bel_entry, cell_bel_pin_entry, common_cell_bel_pin_maps, cell_bel_mapping, package_pin, package_of_pins, site_constant_source, node_constant_source, constant_cells, lut_cell, lut_bel, lut_element, site_type_lut_elements, lut_definitions}
+use Rattle.ix_message.specs.Device.{bel_pin, site_pin, bel, site_pip, site_wire, site_type, site_type_in_tile_type, pip, wire_constant_sources, tile_type, site, tile, wire, node, site_type_bel_entry, cell_bel_pin_entry, common_cell_bel_pin_maps, cell_bel_mapping, package_pin, package_of_pins, site_constant_source, node_constant_source, constant_cells, lut_cell, lut_bel, lut_element, site_type_lut_elements, lut_definitions, device}
+use Rattle.ix_rec.specs.declared.device.DeviceRec.{DeviceRec}
 use Rattle.ix_rec.specs.declared.device.BelPin.{BelPin}
 use Rattle.ix_rec.specs.declared.device.SitePin.{SitePin}
 use Rattle.ix_rec.specs.declared.device.Bel.{Bel}
@@ -117,3 +118,6 @@ site_type_lut_elements_record names r = ([], (name_text names r.site, (map (lut_
 
 abbrev pub lut_definitions_record : List Text → LutDefinitions → Value Datum lut_definitions
 lut_definitions_record names r = ([], (map (lut_cell_record names) r.lut_cells, (map (site_type_lut_elements_record names) r.lut_elements, tt)))
+
+abbrev pub device_record : List Text → DeviceRec → Value Datum device
+device_record names r = ([], (name_text names r.name, (map (site_type_record names) r.site_type_list, (map (tile_type_record names) r.tile_type_list, (map (tile_record names) r.tile_list, (map (wire_record names) r.wires, (map (node_record names) r.nodes, (map (cell_bel_mapping_record names) r.cell_bel_map, (map (package_of_pins_record names) r.packages, (option_with (constant_cells_record names) r.constants, (lut_definitions_record names r.lut_definitions, tt)))))))))))

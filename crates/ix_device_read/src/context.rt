@@ -28,7 +28,7 @@ pub struct Context<'n> {
     /// How many site types there are.
     pub site_types: usize,
     /// Of each tile type, how many types its sites have.
-    pub tile_types: &'n [u32],
+    pub tile_types: &'n [usize],
     /// How many wires the device lists.
     pub wires: usize,
     /// How many BEL pins the site type around has.
@@ -97,7 +97,7 @@ impl<'n> Context<'n> {
         ensures { result ≡ slice_index self.now.tile_types.now self.now.tile_type }
     {
         match self.tile_types.get(self.tile_type as usize) {
-            Some(count) => *count as usize,
+            Some(count) => *count,
             None => 0,
         }
     }

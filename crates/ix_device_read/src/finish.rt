@@ -1,7 +1,8 @@
 //! From a struct's numbers to its part of the record.
 
 ghost use Rattle.std.specs.Prelude.{◌≡◌, map};
-ghost use Rattle.ix_device_read.specs.Finish.{finish_at, finish_each};
+ghost use Rattle.ix_message.specs.Names.{option_with};
+ghost use Rattle.ix_device_read.specs.Finish.{finish_at, finish_each, finish_option as option_finished};
 ghost use Rattle.ix_device_read.specs.Views.{sizes_of, MeetsWith};
 
 use crate::context::Context;
@@ -46,4 +47,22 @@ pub fn finish_list<T: Finish>(
         found.push(one)?;
     }
     Ok(found)
+}
+
+/// The same of a struct that may be missing.
+#[tactic(auto, unfolding(crate::specs::Finish::finish_option))]
+pub fn finish_option<T: Finish>(
+    one: Option<T>,
+    ctx: &Context<'_>,
+    walk: &mut Walk,
+) -> Result<Option<T::Part>, Stop>
+    ensures { MeetsWith (option_with (T.record_by ctx.now.names.now)) result walk.new (option_finished (finish_at T.shape (sizes_of ctx.now)) (option_with T.numbers one) walk.old) }
+{
+    match one {
+        Some(one) => {
+            let one = one.finish(ctx, walk)?;
+            Ok(Some(one))
+        }
+        None => Ok(None),
+    }
 }

@@ -4,6 +4,7 @@
 mod cell_map;
 mod choices;
 mod context;
+mod device;
 mod finish;
 mod inversion;
 mod lists;

@@ -1,0 +1,119 @@
+use Rattle.std.proofs.Common.{◌≡◌, refl, rules}
+use Rattle.std.proofs.lemmas.Result.{err_from_is_err_and}
+use Rattle.ix_device_read.specs.Finish.{finish_at, finish_row}
+use Rattle.ix_device_read.proofs.Each.{stops_first}
+use Rattle.ix_device_read.proofs.device.finish_root.Goals as goal
+
+pub returns-in_err-site_type_list : goal.returns-in_err-site_type_list
+unfolding finish_at finish_row
+returns-in_err-site_type_list c =
+    let p = err_from_is_err_and c.from_residual-in_err-site_type_list.result c.from_residual-in_err-site_type_list.ensures.1 in
+    let h0 = c.in_ok-name.ensures in
+    rw (p.1, p.2, ← c.begin.ensures, h0) (stops_first c.in_err-site_type_list.field-0.0 _ _ (stops_first c.in_err-site_type_list.field-0.0 _ _ (stops_first c.in_err-site_type_list.field-0.0 _ _ (rw c.inside-inner.ensures at c.in_err-site_type_list.ensures))))
+
+pub returns-in_err-tile_type_list : goal.returns-in_err-tile_type_list
+unfolding finish_at finish_row
+returns-in_err-tile_type_list c =
+    let p = err_from_is_err_and c.from_residual-in_err-tile_type_list.result c.from_residual-in_err-tile_type_list.ensures.1 in
+    let h0 = c.in_ok-name.ensures in
+    let h1 = rw c.inside-inner.ensures at c.in_ok-site_type_list.ensures in
+    rw (p.1, p.2, ← c.begin.ensures, h0, h1) (stops_first c.in_err-tile_type_list.field-0.0 _ _ (stops_first c.in_err-tile_type_list.field-0.0 _ _ (stops_first c.in_err-tile_type_list.field-0.0 _ _ (stops_first c.in_err-tile_type_list.field-0.0 _ _ (rw c.inside-inner.ensures at c.in_err-tile_type_list.ensures)))))
+
+pub returns-in_err-tile_list : goal.returns-in_err-tile_list
+unfolding finish_at finish_row
+returns-in_err-tile_list c =
+    let p = err_from_is_err_and c.from_residual-in_err-tile_list.result c.from_residual-in_err-tile_list.ensures.1 in
+    let h0 = c.in_ok-name.ensures in
+    let h1 = rw c.inside-inner.ensures at c.in_ok-site_type_list.ensures in
+    let h2 = rw c.inside-inner.ensures at c.in_ok-tile_type_list.ensures in
+    rw (p.1, p.2, ← c.begin.ensures, h0, h1, h2) (stops_first c.in_err-tile_list.field-0.0 _ _ (stops_first c.in_err-tile_list.field-0.0 _ _ (stops_first c.in_err-tile_list.field-0.0 _ _ (stops_first c.in_err-tile_list.field-0.0 _ _ (stops_first c.in_err-tile_list.field-0.0 _ _ (rw c.inside-inner.ensures at c.in_err-tile_list.ensures))))))
+
+pub returns-in_err-wires : goal.returns-in_err-wires
+unfolding finish_at finish_row
+returns-in_err-wires c =
+    let p = err_from_is_err_and c.from_residual-in_err-wires.result c.from_residual-in_err-wires.ensures.1 in
+    let h0 = c.in_ok-name.ensures in
+    let h1 = rw c.inside-inner.ensures at c.in_ok-site_type_list.ensures in
+    let h2 = rw c.inside-inner.ensures at c.in_ok-tile_type_list.ensures in
+    let h3 = rw c.inside-inner.ensures at c.in_ok-tile_list.ensures in
+    rw (p.1, p.2, ← c.begin.ensures, h0, h1, h2, h3) (stops_first c.in_err-wires.field-0.0 _ _ (stops_first c.in_err-wires.field-0.0 _ _ (stops_first c.in_err-wires.field-0.0 _ _ (stops_first c.in_err-wires.field-0.0 _ _ (stops_first c.in_err-wires.field-0.0 _ _ (stops_first c.in_err-wires.field-0.0 _ _ (rw c.inside-inner.ensures at c.in_err-wires.ensures)))))))
+
+pub returns-in_err-nodes : goal.returns-in_err-nodes
+unfolding finish_at finish_row
+returns-in_err-nodes c =
+    let p = err_from_is_err_and c.from_residual-in_err-nodes.result c.from_residual-in_err-nodes.ensures.1 in
+    let h0 = c.in_ok-name.ensures in
+    let h1 = rw c.inside-inner.ensures at c.in_ok-site_type_list.ensures in
+    let h2 = rw c.inside-inner.ensures at c.in_ok-tile_type_list.ensures in
+    let h3 = rw c.inside-inner.ensures at c.in_ok-tile_list.ensures in
+    let h4 = rw c.inside-inner.ensures at c.in_ok-wires.ensures in
+    rw (p.1, p.2, ← c.begin.ensures, h0, h1, h2, h3, h4) (stops_first c.in_err-nodes.field-0.0 _ _ (stops_first c.in_err-nodes.field-0.0 _ _ (stops_first c.in_err-nodes.field-0.0 _ _ (stops_first c.in_err-nodes.field-0.0 _ _ (stops_first c.in_err-nodes.field-0.0 _ _ (stops_first c.in_err-nodes.field-0.0 _ _ (stops_first c.in_err-nodes.field-0.0 _ _ (rw c.inside-inner.ensures at c.in_err-nodes.ensures))))))))
+
+pub returns-in_err-cell_bel_map : goal.returns-in_err-cell_bel_map
+unfolding finish_at finish_row
+returns-in_err-cell_bel_map c =
+    let p = err_from_is_err_and c.from_residual-in_err-cell_bel_map.result c.from_residual-in_err-cell_bel_map.ensures.1 in
+    let h0 = c.in_ok-name.ensures in
+    let h1 = rw c.inside-inner.ensures at c.in_ok-site_type_list.ensures in
+    let h2 = rw c.inside-inner.ensures at c.in_ok-tile_type_list.ensures in
+    let h3 = rw c.inside-inner.ensures at c.in_ok-tile_list.ensures in
+    let h4 = rw c.inside-inner.ensures at c.in_ok-wires.ensures in
+    let h5 = rw c.inside-inner.ensures at c.in_ok-nodes.ensures in
+    rw (p.1, p.2, ← c.begin.ensures, h0, h1, h2, h3, h4, h5) (stops_first c.in_err-cell_bel_map.field-0.0 _ _ (stops_first c.in_err-cell_bel_map.field-0.0 _ _ (stops_first c.in_err-cell_bel_map.field-0.0 _ _ (stops_first c.in_err-cell_bel_map.field-0.0 _ _ (stops_first c.in_err-cell_bel_map.field-0.0 _ _ (stops_first c.in_err-cell_bel_map.field-0.0 _ _ (stops_first c.in_err-cell_bel_map.field-0.0 _ _ (stops_first c.in_err-cell_bel_map.field-0.0 _ _ (rw c.inside-inner.ensures at c.in_err-cell_bel_map.ensures)))))))))
+
+pub returns-in_err-packages : goal.returns-in_err-packages
+unfolding finish_at finish_row
+returns-in_err-packages c =
+    let p = err_from_is_err_and c.from_residual-in_err-packages.result c.from_residual-in_err-packages.ensures.1 in
+    let h0 = c.in_ok-name.ensures in
+    let h1 = rw c.inside-inner.ensures at c.in_ok-site_type_list.ensures in
+    let h2 = rw c.inside-inner.ensures at c.in_ok-tile_type_list.ensures in
+    let h3 = rw c.inside-inner.ensures at c.in_ok-tile_list.ensures in
+    let h4 = rw c.inside-inner.ensures at c.in_ok-wires.ensures in
+    let h5 = rw c.inside-inner.ensures at c.in_ok-nodes.ensures in
+    let h6 = rw c.inside-inner.ensures at c.in_ok-cell_bel_map.ensures in
+    rw (p.1, p.2, ← c.begin.ensures, h0, h1, h2, h3, h4, h5, h6) (stops_first c.in_err-packages.field-0.0 _ _ (stops_first c.in_err-packages.field-0.0 _ _ (stops_first c.in_err-packages.field-0.0 _ _ (stops_first c.in_err-packages.field-0.0 _ _ (stops_first c.in_err-packages.field-0.0 _ _ (stops_first c.in_err-packages.field-0.0 _ _ (stops_first c.in_err-packages.field-0.0 _ _ (stops_first c.in_err-packages.field-0.0 _ _ (stops_first c.in_err-packages.field-0.0 _ _ (rw c.inside-inner.ensures at c.in_err-packages.ensures))))))))))
+
+pub returns-in_err-constants : goal.returns-in_err-constants
+unfolding finish_at finish_row
+returns-in_err-constants c =
+    let p = err_from_is_err_and c.from_residual-in_err-constants.result c.from_residual-in_err-constants.ensures.1 in
+    let h0 = c.in_ok-name.ensures in
+    let h1 = rw c.inside-inner.ensures at c.in_ok-site_type_list.ensures in
+    let h2 = rw c.inside-inner.ensures at c.in_ok-tile_type_list.ensures in
+    let h3 = rw c.inside-inner.ensures at c.in_ok-tile_list.ensures in
+    let h4 = rw c.inside-inner.ensures at c.in_ok-wires.ensures in
+    let h5 = rw c.inside-inner.ensures at c.in_ok-nodes.ensures in
+    let h6 = rw c.inside-inner.ensures at c.in_ok-cell_bel_map.ensures in
+    let h7 = rw c.inside-inner.ensures at c.in_ok-packages.ensures in
+    rw (p.1, p.2, ← c.begin.ensures, h0, h1, h2, h3, h4, h5, h6, h7) (stops_first c.in_err-constants.field-0.0 _ _ (stops_first c.in_err-constants.field-0.0 _ _ (stops_first c.in_err-constants.field-0.0 _ _ (stops_first c.in_err-constants.field-0.0 _ _ (stops_first c.in_err-constants.field-0.0 _ _ (stops_first c.in_err-constants.field-0.0 _ _ (stops_first c.in_err-constants.field-0.0 _ _ (stops_first c.in_err-constants.field-0.0 _ _ (stops_first c.in_err-constants.field-0.0 _ _ (stops_first c.in_err-constants.field-0.0 _ _ (rw c.inside-inner.ensures at c.in_err-constants.ensures)))))))))))
+
+pub returns-in_err-lut_definitions : goal.returns-in_err-lut_definitions
+unfolding finish_at finish_row
+returns-in_err-lut_definitions c =
+    let p = err_from_is_err_and c.from_residual-in_err-lut_definitions.result c.from_residual-in_err-lut_definitions.ensures.1 in
+    let h0 = c.in_ok-name.ensures in
+    let h1 = rw c.inside-inner.ensures at c.in_ok-site_type_list.ensures in
+    let h2 = rw c.inside-inner.ensures at c.in_ok-tile_type_list.ensures in
+    let h3 = rw c.inside-inner.ensures at c.in_ok-tile_list.ensures in
+    let h4 = rw c.inside-inner.ensures at c.in_ok-wires.ensures in
+    let h5 = rw c.inside-inner.ensures at c.in_ok-nodes.ensures in
+    let h6 = rw c.inside-inner.ensures at c.in_ok-cell_bel_map.ensures in
+    let h7 = rw c.inside-inner.ensures at c.in_ok-packages.ensures in
+    let h8 = rw c.inside-inner.ensures at c.in_ok-constants.ensures in
+    rw (p.1, p.2, ← c.begin.ensures, h0, h1, h2, h3, h4, h5, h6, h7, h8) (stops_first c.in_err-lut_definitions.field-0.0 _ _ (stops_first c.in_err-lut_definitions.field-0.0 _ _ (stops_first c.in_err-lut_definitions.field-0.0 _ _ (stops_first c.in_err-lut_definitions.field-0.0 _ _ (stops_first c.in_err-lut_definitions.field-0.0 _ _ (stops_first c.in_err-lut_definitions.field-0.0 _ _ (stops_first c.in_err-lut_definitions.field-0.0 _ _ (stops_first c.in_err-lut_definitions.field-0.0 _ _ (stops_first c.in_err-lut_definitions.field-0.0 _ _ (stops_first c.in_err-lut_definitions.field-0.0 _ _ (stops_first c.in_err-lut_definitions.field-0.0 _ _ (rw c.inside-inner.ensures at c.in_err-lut_definitions.ensures))))))))))))
+
+pub returns : goal.returns
+unfolding finish_at finish_row
+returns c =
+    let h0 = c.in_ok-name.ensures in
+    let h1 = rw c.inside-inner.ensures at c.in_ok-site_type_list.ensures in
+    let h2 = rw c.inside-inner.ensures at c.in_ok-tile_type_list.ensures in
+    let h3 = rw c.inside-inner.ensures at c.in_ok-tile_list.ensures in
+    let h4 = rw c.inside-inner.ensures at c.in_ok-wires.ensures in
+    let h5 = rw c.inside-inner.ensures at c.in_ok-nodes.ensures in
+    let h6 = rw c.inside-inner.ensures at c.in_ok-cell_bel_map.ensures in
+    let h7 = rw c.inside-inner.ensures at c.in_ok-packages.ensures in
+    let h8 = rw c.inside-inner.ensures at c.in_ok-constants.ensures in
+    let h9 = rw c.inside-inner.ensures at c.in_ok-lut_definitions.ensures in
+    rw (← c.begin.ensures, h0, h1, h2, h3, h4, h5, h6, h7, h8, h9) refl

@@ -1,0 +1,21 @@
+-- What the numbers of a whole device are asked against.
+use Rattle.std.specs.Prelude.{ℕ, List, length, map}
+use Rattle.ix_message.specs.Shape.{Text, Value}
+use Rattle.ix_message.specs.Device.{device, tile_type}
+use Rattle.ix_device_read.specs.Finish.{Sizes}
+
+-- how many types the sites of a tile type have
+abbrev pub site_type_count : Value ℕ tile_type → ℕ
+site_type_count v = length v.1.0
+
+abbrev pub device_sizes : List Text → List Text → Value ℕ device → Sizes
+device_sizes table names v = record {
+  table = table;
+  names = names;
+  site_types = length v.1.1.0;
+  tile_types = map site_type_count v.1.1.1.0;
+  wires = length v.1.1.1.1.1.0;
+  bel_pins = 0;
+  tile_wires = 0;
+  tile_type = 0;
+}

@@ -1,7 +1,10 @@
 use Rattle.std.proofs.Common.{◌≡◌, refl, rules}
 use Rattle.std.proofs.lemmas.Result.{err_from_is_err_and}
 use Rattle.ix_device_read.specs.Finish.{finish_at, finish_row}
+use Rattle.ix_device_read.specs.Numbers.{name_text}
+use Rattle.ix_device_read.specs.Views.{sizes_of}
 use Rattle.ix_device_read.proofs.Each.{stops_first}
+use Rattle.ix_device_read.proofs.Root.{root_done}
 use Rattle.ix_device_read.proofs.device.finish_root.Goals as goal
 
 pub returns-in_err-site_type_list : goal.returns-in_err-site_type_list
@@ -104,16 +107,14 @@ returns-in_err-lut_definitions c =
     rw (p.1, p.2, ← c.begin.ensures, h0, h1, h2, h3, h4, h5, h6, h7, h8) (stops_first c.in_err-lut_definitions.field-0.0 _ _ (stops_first c.in_err-lut_definitions.field-0.0 _ _ (stops_first c.in_err-lut_definitions.field-0.0 _ _ (stops_first c.in_err-lut_definitions.field-0.0 _ _ (stops_first c.in_err-lut_definitions.field-0.0 _ _ (stops_first c.in_err-lut_definitions.field-0.0 _ _ (stops_first c.in_err-lut_definitions.field-0.0 _ _ (stops_first c.in_err-lut_definitions.field-0.0 _ _ (stops_first c.in_err-lut_definitions.field-0.0 _ _ (stops_first c.in_err-lut_definitions.field-0.0 _ _ (stops_first c.in_err-lut_definitions.field-0.0 _ _ (rw c.inside-inner.ensures at c.in_err-lut_definitions.ensures))))))))))))
 
 pub returns : goal.returns
-unfolding finish_at finish_row
 returns c =
-    let h0 = c.in_ok-name.ensures in
-    let h1 = rw c.inside-inner.ensures at c.in_ok-site_type_list.ensures in
-    let h2 = rw c.inside-inner.ensures at c.in_ok-tile_type_list.ensures in
-    let h3 = rw c.inside-inner.ensures at c.in_ok-tile_list.ensures in
-    let h4 = rw c.inside-inner.ensures at c.in_ok-wires.ensures in
-    let h5 = rw c.inside-inner.ensures at c.in_ok-nodes.ensures in
-    let h6 = rw c.inside-inner.ensures at c.in_ok-cell_bel_map.ensures in
-    let h7 = rw c.inside-inner.ensures at c.in_ok-packages.ensures in
-    let h8 = rw c.inside-inner.ensures at c.in_ok-constants.ensures in
-    let h9 = rw c.inside-inner.ensures at c.in_ok-lut_definitions.ensures in
-    rw (← c.begin.ensures, h0, h1, h2, h3, h4, h5, h6, h7, h8, h9) refl
+    root_done (sizes_of c.args.ctx.now) c.args.walk.now c.args.raw.name.now (name_text c.args.ctx.now.names.now c.in_ok-name.name) _ _ _ _ _ _ _ _ _ _ _ _ _ _ _ _ _ _ _ _ _ _ _ _ _ _ _ _ c.begin.ensures c.in_ok-name.ensures
+        (rw c.inside-inner.ensures at c.in_ok-site_type_list.ensures)
+        (rw c.inside-inner.ensures at c.in_ok-tile_type_list.ensures)
+        (rw c.inside-inner.ensures at c.in_ok-tile_list.ensures)
+        (rw c.inside-inner.ensures at c.in_ok-wires.ensures)
+        (rw c.inside-inner.ensures at c.in_ok-nodes.ensures)
+        (rw c.inside-inner.ensures at c.in_ok-cell_bel_map.ensures)
+        (rw c.inside-inner.ensures at c.in_ok-packages.ensures)
+        (rw c.inside-inner.ensures at c.in_ok-constants.ensures)
+        (rw c.inside-inner.ensures at c.in_ok-lut_definitions.ensures)

@@ -1,8 +1,10 @@
 -- What the numbers of a whole device are asked against.
-use Rattle.std.specs.Prelude.{ℕ, List, length, map}
+use Rattle.std.specs.Prelude.{ℕ, List, length, map, replicate, Result, Ok}
+use Rattle.ix_frame.specs.Result.{◌>>=◌}
+use Rattle.ix_message.specs.Names.{Datum}
 use Rattle.ix_message.specs.Shape.{Text, Value}
 use Rattle.ix_message.specs.Device.{device, tile_type}
-use Rattle.ix_device_read.specs.Finish.{Sizes}
+use Rattle.ix_device_read.specs.Finish.{Sizes, Stopped, finish_at}
 
 -- how many types the sites of a tile type have
 abbrev pub site_type_count : Value ℕ tile_type → ℕ
@@ -19,3 +21,7 @@ device_sizes table names v = record {
   tile_wires = 0;
   tile_type = 0;
 }
+
+-- the whole device, from the root on
+abbrev pub device_finished : List Text → List Text → Value ℕ device → Result (Value Datum device) Stopped
+device_finished table names v = finish_at device (device_sizes table names v) v (replicate 29 0) >>= λ x. Ok x.0

@@ -6,8 +6,8 @@ ghost use Rattle.ix_device_raw.specs.Raw.{device_numbers, tile_type_numbers};
 ghost use Rattle.ix_device_read.specs.Finish.{finish_at};
 ghost use Rattle.ix_device_read.specs.Numbers.{name_text};
 ghost use Rattle.ix_device_read.specs.Records.{device_record};
-ghost use Rattle.ix_device_read.specs.Sizes.{device_sizes, site_type_count};
-ghost use Rattle.ix_device_read.specs.Views.{sizes_of, MeetsWith};
+ghost use Rattle.ix_device_read.specs.Sizes.{device_finished, device_sizes, site_type_count};
+ghost use Rattle.ix_device_read.specs.Views.{sizes_of, Meets, MeetsWith};
 
 use crate::context::Context;
 use crate::finish::{Finish, finish_list, finish_option};
@@ -97,4 +97,20 @@ fn finish_root(raw: RawDevice<'_>, ctx: &Context<'_>, walk: &mut Walk) -> Result
         constants,
         lut_definitions,
     })
+}
+
+/// The record that a device's numbers make, with the names of its string table and all its texts among the names, or
+/// the first number that is out of its list, in reading order.
+pub fn finish_device(
+    alloc: Global,
+    names: &Names,
+    strings: &[NameId],
+    raw: RawDevice<'_>,
+) -> Result<DeviceRec, Stop>
+    ensures { Meets (device_record names.now) result (device_finished (map (name_text names.now) strings.now) names.now (device_numbers raw.entry)) }
+{
+    let tile_types = site_type_counts(alloc, &raw.tile_type_list)?;
+    let ctx = device_context(alloc, names, strings, &raw, tile_types.as_slice());
+    let mut walk = Walk::new();
+    finish_root(raw, &ctx, &mut walk)
 }

@@ -16,3 +16,6 @@ mod stop;
 mod tile;
 mod tile_type;
 mod walk;
+
+pub use device::finish_device;
+pub use stop::Stop;

@@ -109,12 +109,12 @@ returns-in_err-lut_definitions c =
 pub returns : goal.returns
 returns c =
     root_done (sizes_of c.args.ctx.now) c.args.walk.now c.args.raw.name.now (name_text c.args.ctx.now.names.now c.in_ok-name.name) _ _ _ _ _ _ _ _ _ _ _ _ _ _ _ _ _ _ _ _ _ _ _ _ _ _ _ _ c.begin.ensures c.in_ok-name.ensures
-        (rw c.inside-inner.ensures at c.in_ok-site_type_list.ensures)
-        (rw c.inside-inner.ensures at c.in_ok-tile_type_list.ensures)
-        (rw c.inside-inner.ensures at c.in_ok-tile_list.ensures)
-        (rw c.inside-inner.ensures at c.in_ok-wires.ensures)
-        (rw c.inside-inner.ensures at c.in_ok-nodes.ensures)
-        (rw c.inside-inner.ensures at c.in_ok-cell_bel_map.ensures)
-        (rw c.inside-inner.ensures at c.in_ok-packages.ensures)
-        (rw c.inside-inner.ensures at c.in_ok-constants.ensures)
-        (rw c.inside-inner.ensures at c.in_ok-lut_definitions.ensures)
+    (rw c.inside-inner.ensures at c.in_ok-site_type_list.ensures)
+    (rw c.inside-inner.ensures at c.in_ok-tile_type_list.ensures)
+    (rw c.inside-inner.ensures at c.in_ok-tile_list.ensures)
+    (rw c.inside-inner.ensures at c.in_ok-wires.ensures)
+    (rw c.inside-inner.ensures at c.in_ok-nodes.ensures)
+    (rw c.inside-inner.ensures at c.in_ok-cell_bel_map.ensures)
+    (rw c.inside-inner.ensures at c.in_ok-packages.ensures)
+    (rw c.inside-inner.ensures at c.in_ok-constants.ensures)
+    (rw c.inside-inner.ensures at c.in_ok-lut_definitions.ensures)

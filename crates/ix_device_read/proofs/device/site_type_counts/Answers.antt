@@ -11,9 +11,9 @@ loop-i-preserved c =
     let t = c.at.result.now in
     let here : get_or c.args.list.now c.loop-i.i t ≡ t = get_or_from_slice_get c.args.list.now c.loop-i.i t t c.at.ensures in
     let more : map tile_type_numbers (take (c.loop-i.i + 1) c.args.list.now) ≡ map tile_type_numbers (take c.loop-i.i c.args.list.now) ++ tile_type_numbers t ∷ [] =
-        map_more tile_type_numbers c.args.list.now c.loop-i.i t lt ∙ rw here refl in
+    map_more tile_type_numbers c.args.list.now c.loop-i.i t lt ∙ rw here refl in
     let both : map site_type_count (map tile_type_numbers (take (c.loop-i.i + 1) c.args.list.now)) ≡ map site_type_count (map tile_type_numbers (take c.loop-i.i c.args.list.now)) ++ site_type_count (tile_type_numbers t) ∷ [] =
-        rw more (map_push site_type_count (map tile_type_numbers (take c.loop-i.i c.args.list.now)) (tile_type_numbers t)) in
+    rw more (map_push site_type_count (map tile_type_numbers (take c.loop-i.i c.args.list.now)) (tile_type_numbers t)) in
     let one : site_type_count (tile_type_numbers t) ≡ c.len-count.result = length-map t.site_types site_type_in_tile_type_numbers ∙ sym c.len-count.ensures in
     c.in_ok-push.ensures.ok ∙ rw (both, one, c.loop-i.invariant) refl
 

@@ -1,10 +1,10 @@
 -- From the numbers of a message to its record: what the reader does after the whole message was read, struct by struct
 -- in reading order.
 use Prim.Native.String.{String}
-use Rattle.std.specs.Prelude.{◌≡◌, ℕ, zero, suc, ◌+◌, ◌-◌, ◌^◌, min, List, [], ◌∷◌, length, map, Bool, true, false, nat_lt, codes, Option, Some, None, Result, Ok, Err, if◌then◌else◌, slice_index, slice_index_or, slice_set}
+use Rattle.std.specs.Prelude.{ℕ, ◌+◌, ◌-◌, ◌^◌, min, List, [], ◌∷◌, length, Bool, true, false, nat_lt, codes, Option, Some, None, Result, Ok, Err, if◌then◌else◌, slice_index, slice_set}
 use Rattle.ix_frame.specs.Result.{◌>>=◌}
-use Rattle.ix_message.specs.Shape.{Text, Target, Kind, Field, field, Struct, Pointers, Branches, Value, Parts, nowhere, strings, site_types, tile_types, wires, bel_pins, tile_wires, cell_decls, ports, instances, number, flag, nothing, choice, name, index, site_of_tile, port_of_owner, bus_tag, bus_bit, instance_of_cell, by_tag, struct_of, no_more, text, texts, numbers, struct, struct_or_none, boxed, structs, branches, string_table, unread, ends, branch}
-use Rattle.ix_message.specs.Names.{Datum, the_number, the_text, same_text, kind_in, datum_of}
+use Rattle.ix_message.specs.Shape.{Text, Target, Kind, Field, field, Struct, Pointers, Value, Parts, site_types, tile_types, wires, bel_pins, tile_wires, nothing, choice, name, index, site_of_tile, by_tag, struct_of, no_more, text, texts, numbers, struct, struct_or_none, boxed, structs, branches, string_table, unread, ends}
+use Rattle.ix_message.specs.Names.{Datum, the_number, same_text, kind_in, datum_of}
 use Rattle.ix_message.specs.Indexes.{Item}
 use Rattle.ix_strings.specs.Names.{number_of}
 

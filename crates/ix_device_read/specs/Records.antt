@@ -1,5 +1,5 @@
 -- What the parts of a device record say: their data, and what their pointers lead to, with names as texts.
-use Rattle.std.specs.Prelude.{ℕ, List, [], ◌∷◌, ◌++◌, map}
+use Rattle.std.specs.Prelude.{List, [], ◌∷◌, map}
 use Rattle.ix_message.specs.Shape.{Text, Value}
 use Rattle.ix_message.specs.Names.{Datum, the_number, the_text, option_with}
 use Rattle.ix_message_read.specs.Tells.{flag_number}

@@ -1,5 +1,5 @@
 -- What the values of this crate are.
-use Rattle.std.specs.Prelude.{◌≡◌, ℕ, ◌-◌, List, [], ◌∷◌, map, Result, Ok, Err, slice_index, slice_index_or}
+use Rattle.std.specs.Prelude.{◌≡◌, ℕ, ◌-◌, List, map, Result, Ok, Err, slice_index}
 use Rattle.ix_rec.specs.declared.place.Place.{Place}
 use Rattle.ix_rec.specs.declared.place.Place.TheVariants.{Item}
 use Rattle.ix_message.specs.Shape.{Text}
@@ -7,7 +7,7 @@ use Rattle.ix_device_read.specs.declared.context.Context.{Context}
 use Rattle.ix_device_read.specs.declared.stop.Stop.{Stop}
 use Rattle.ix_device_read.specs.declared.stop.Stop.TheVariants.{OutOfList, Unnamed, Memory}
 use Rattle.ix_device_read.specs.Numbers.{name_text}
-use Rattle.ix_device_read.specs.Finish.{Sizes, Stopped, bad, unnamed, field_at}
+use Rattle.ix_device_read.specs.Finish.{Sizes, Stopped, bad, unnamed}
 
 -- what a context says of the lists
 abbrev pub sizes_of : Context → Sizes

@@ -4,7 +4,7 @@ use Rattle.std.proofs.lemmas.List.{append-nil}
 use Rattle.ix_num.specs.declared.fault.FrameFault.{FrameFault}
 use Rattle.ix_frame.specs.Result.{◌>>=◌}
 use Rattle.ix_frame.specs.Objects.{text_in}
-use Rattle.ix_frame.specs.Target.{Object, Elements}
+use Rattle.ix_frame.specs.Target.{Elements}
 use Rattle.ix_message.specs.Shape.{Text}
 use Rattle.ix_message.specs.Reading.{Reads, texts_from}
 use Rattle.ix_message.proofs.Lists.{with_front}

@@ -1,4 +1,3 @@
-use Rattle.std.proofs.Common.{◌≡◌, refl, rules}
 use Rattle.std.proofs.lemmas.Result.{err_from_is_err_and}
 use Rattle.ix_device_read.specs.Finish.{finish_at, finish_row}
 use Rattle.ix_device_read.specs.Numbers.{name_text}

@@ -1,6 +1,6 @@
-use Rattle.std.proofs.Common.{◌≡◌, ◌++◌, ◌∷◌, [], ℕ, suc, List, map, length, ap, arith}
+use Rattle.std.proofs.Common.{◌≡◌, ◌++◌, ◌∷◌, [], map, ap}
 use Rattle.std.proofs.lemmas.List.{map_push}
-use Rattle.std.specs.Vec.Iter.{into_iter_items, into_iter_len}
+use Rattle.std.specs.Vec.Iter.{into_iter_items}
 use Rattle.ix_device_read.specs.Finish.{finish_at, finish_each}
 use Rattle.ix_device_read.specs.Views.{sizes_of}
 use Rattle.ix_device_read.proofs.Each.{one_more, one_stops, all_done, nothing_left, one_left}

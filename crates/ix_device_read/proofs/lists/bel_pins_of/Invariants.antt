@@ -1,8 +1,6 @@
-use Rattle.std.proofs.Common.{◌≡◌, ℕ, map, take, drop}
-use Rattle.ix_message.specs.Shape.{name}
-use Rattle.ix_message.specs.Names.{the_text, the_number}
-use Rattle.ix_device_read.specs.Finish.{asked_at, below, known, each_alone}
-use Rattle.ix_device_read.specs.Views.{sizes_of}
+use Rattle.std.proofs.Common.{◌≡◌, map, drop}
+use Rattle.ix_message.specs.Names.{the_number}
+use Rattle.ix_device_read.specs.Finish.{below, each_alone}
 use Rattle.ix_device_read.proofs.Each.{behind_some}
 use Rattle.ix_device_read.proofs.lists.bel_pins_of.Given as goal
 

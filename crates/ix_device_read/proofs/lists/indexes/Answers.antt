@@ -1,10 +1,8 @@
-use Rattle.std.proofs.Common.{◌≡◌, ◌++◌, ◌+◌, ◌<◌, ◌≤◌, ◌∷◌, [], ℕ, List, map, take, drop, length, get_or, refl, ap, arith, sym, ◌∙◌}
+use Rattle.std.proofs.Common.{◌≡◌, ◌++◌, ◌+◌, ◌<◌, ◌≤◌, ◌∷◌, [], map, take, drop, length, get_or, refl, arith, ◌∙◌}
 use Rattle.std.proofs.lemmas.Option.{get_or_from_slice_get}
-use Rattle.std.proofs.lemmas.List.{map_push, map_more, take_all}
-use Rattle.ix_message.specs.Shape.{name}
-use Rattle.ix_message.specs.Names.{the_text, the_number}
-use Rattle.ix_device_read.specs.Finish.{asked_at, below, known, each_alone}
-use Rattle.ix_device_read.specs.Views.{sizes_of}
+use Rattle.std.proofs.lemmas.List.{map_more, take_all}
+use Rattle.ix_message.specs.Names.{the_number}
+use Rattle.ix_device_read.specs.Finish.{below, each_alone}
 use Rattle.ix_device_read.proofs.Each.{items_from, no_items, alone_more, alone_stops, alone_done}
 use Rattle.ix_device_read.proofs.lists.indexes.Goals as goal
 

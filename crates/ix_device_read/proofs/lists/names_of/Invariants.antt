@@ -1,7 +1,7 @@
-use Rattle.std.proofs.Common.{◌≡◌, ℕ, map, take, drop}
+use Rattle.std.proofs.Common.{◌≡◌, ℕ, map, drop}
 use Rattle.ix_message.specs.Shape.{name}
-use Rattle.ix_message.specs.Names.{the_text, the_number}
-use Rattle.ix_device_read.specs.Finish.{asked_at, below, known, each_alone}
+use Rattle.ix_message.specs.Names.{the_text}
+use Rattle.ix_device_read.specs.Finish.{asked_at, each_alone}
 use Rattle.ix_device_read.specs.Numbers.{name_text}
 use Rattle.ix_device_read.specs.Views.{sizes_of}
 use Rattle.ix_device_read.proofs.Each.{behind_some}

@@ -1,8 +1,6 @@
-use Rattle.std.proofs.Common.{◌≡◌, ◌++◌, ◌+◌, ◌<◌, ◌≤◌, ◌∷◌, [], ℕ, List, map, take, drop, length, ap, arith, sym, ◌∙◌}
-use Rattle.std.proofs.lemmas.List.{map_push, map_more, take_all}
-use Rattle.ix_message.specs.Shape.{name}
-use Rattle.ix_message.specs.Names.{the_text, the_number}
-use Rattle.ix_device_read.specs.Finish.{asked_at, below, known, each_alone}
+use Rattle.std.proofs.Common.{◌≡◌, ◌++◌, ◌+◌, ◌<◌, ◌≤◌, ◌∷◌, [], map, drop, length, ap, arith}
+use Rattle.std.proofs.lemmas.List.{map_push}
+use Rattle.ix_device_read.specs.Finish.{known, each_alone}
 use Rattle.ix_device_read.specs.Numbers.{name_text}
 use Rattle.ix_device_read.specs.Views.{sizes_of}
 use Rattle.ix_device_read.proofs.Each.{items_from, no_items, alone_more, alone_stops, alone_done}

@@ -1,4 +1,4 @@
-use Rattle.std.proofs.Common.{◌≡◌, ◌≤◌, ◌<◌, ◌++◌, ◌∷◌, [], map, ap, sym, subst, arith}
+use Rattle.std.proofs.Common.{◌≡◌, ◌≤◌, ◌<◌, ◌++◌, ◌∷◌, [], map, arith}
 use Rattle.std.proofs.lemmas.List.{map_push}
 use Rattle.ix_message.specs.Reading.{value_at, each_from}
 use Rattle.ix_frame.specs.Views.{object_of, elements_of}

@@ -5,15 +5,14 @@ use Rattle.ix_shelf.specs.Sink.{with_bytes, PutsPrefix}
 use Rattle.ix_report.specs.Lines.{line_of}
 use Rattle.ix_report.specs.declared.report.Report as reports
 use Rattle.ix_report.specs.declared.report.Report.TheVariants as told
-use Rattle.ix_frame.specs.Segments.{Segments, segments}
-use Rattle.ix_frame.specs.Target.{Object}
-use Rattle.ix_frame.specs.Objects.{no_elements, root_of, whole_budget, text_at, list_at, elements_at}
+use Rattle.ix_message.specs.Message.{reading}
+use Rattle.ix_message.specs.Phys.{phys_netlist}
 use Rattle.ix_flow.specs.declared.answer.Answer.{Answer}
 use Rattle.ix_flow.specs.declared.answer.Answer.TheVariants.{Broken, Unbuilt, Written}
 use Rattle.ix_flow.specs.declared.status.Status.{Status}
 use Rattle.ix_flow.specs.declared.status.Status.TheVariants as stat
 use Rattle.ix_flow.specs.Words.{Flow}
-use Rattle.ix_flow.specs.Answer.{answer}
+use Rattle.ix_flow.specs.Answer.{answer, empty_netlist}
 use Rattle.ix_flow.specs.Status.{status_of}
 
 -- a shelf and a sink at one moment: what they tell, and how often they have failed
@@ -70,26 +69,12 @@ pub record Answers (files : Files) (flow : Flow) (is : Answer) : Type 0 where
   pub has_design : files flow.design ≡ Some design
   pub answered : answer device design ≡ is
 
--- The bytes are a frame whose root is a physical netlist with an empty name and no strings, placements, nets, site
--- instances or properties (slots 0 to 5 of its root).
-pub record IsEmptyNetlist (bytes : List ℕ) : Type 0 where
-  pub all : Segments
-  pub root : Object
-  pub left : ℕ
-  pub opens : segments bytes ≡ Ok all
-  pub reads : root_of all (whole_budget all) ≡ Ok (root, left)
-  pub name : text_at root 0 left ≡ Ok ([], left)
-  pub strings : list_at 6 root 1 left ≡ Ok (no_elements all, left)
-  pub placements : elements_at root 2 left ≡ Ok (no_elements all, left)
-  pub nets : elements_at root 3 left ≡ Ok (no_elements all, left)
-  pub site_instances : elements_at root 4 left ≡ Ok (no_elements all, left)
-  pub properties : elements_at root 5 left ≡ Ok (no_elements all, left)
-
--- The named file holds the netlist that is the answer, and no other file has changed.
+-- The named file holds the bytes that are the answer, no other file has changed, and the bytes read as a physical
+-- netlist: today always that without cells.
 pub record IsImplemented (report : reports.Report) (flow : Flow) (files : Files) (after : Option Files) : Type 0 where
   pub bytes : List ℕ
   pub answers : Answers files flow (Written bytes report)
-  pub decodes : IsEmptyNetlist bytes
+  pub decodes : reading phys_netlist bytes ≡ Ok empty_netlist
   pub written : after ≡ Some (with_file flow.routed bytes files)
 
 -- The file that is blamed for a fault at reading: the device, or the design once the device was there to be read.

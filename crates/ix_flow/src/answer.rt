@@ -3,7 +3,7 @@
 ghost use Rattle.std.specs.Prelude.{◌≡◌, IfOk};
 ghost use Rattle.ix_frame.specs.Result.{Finds};
 ghost use Rattle.ix_frame.specs.Views.{segments_of};
-ghost use Rattle.ix_flow.specs.Answer.{rule_of, opened, opened_content, empty_netlist, answer_of};
+ghost use Rattle.ix_flow.specs.Answer.{rule_of, opened, opened_content, empty_netlist_file, answer_of};
 
 use crate::first_form::{is_empty_design, is_zero_root};
 use ix_capw::Builder;
@@ -85,7 +85,7 @@ fn opened_content(content: &Content) -> Result<Frame<'_>, Rule>
 
 // A physical netlist without a name, placements or nets.
 fn empty_netlist(alloc: Global) -> Result<Bytes, Memory>
-    ensures { IfOk result (λ bytes. bytes ≡ empty_netlist) }
+    ensures { IfOk result (λ bytes. bytes ≡ empty_netlist_file) }
 {
     let mut builder = Builder::new(alloc);
     match builder.root(0, 6) {

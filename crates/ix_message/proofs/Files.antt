@@ -7,7 +7,7 @@ use Rattle.std.proofs.lemmas.Bool.{le-ltb, leb-false}
 use Rattle.std.proofs.lemmas.List.{take_all, append-nil}
 use Rattle.byteorder.specs.Endian.{little_bytes, little_number}
 use Rattle.byteorder.specs.Numbers.{little_number-reads_back, length-bytes_low_first}
-use Rattle.ix_frame.specs.Segments.{segments, numbers_of_four, cut}
+use Rattle.ix_frame.specs.Segments.{segments, numbers_of_four, cut, cut_out}
 use Rattle.ix_frame.specs.Objects.{root_of, whole_budget}
 use Rattle.ix_message.specs.Shape.{Text, Field, Pointers, Value, struct_of}
 use Rattle.ix_message.specs.Reading.{row_at, value_at, root_at, table_slot}
@@ -26,7 +26,7 @@ use Rattle.ix_message.proofs.RawOf.{AreProper, IsNumbering, raw_row, raw_parts, 
 use Rattle.ix_message.proofs.Table.{record_texts, first_uses-texts, place-bound, texts_long, table_nth, nth_long, nth_fits, nth_slot, nth_pointer}
 
 one_segment_of : (bytes S : List ℕ) (w : ℕ) → length S ≡ 8 * w → length bytes ≡ 8 + length S → little_number 4 bytes ≡ 0 → little_number 4 (drop 4 bytes) ≡ w → drop 8 bytes ≡ S → segments bytes ≡ Ok (S ∷ [])
-unfolding segments numbers_of_four cut
+unfolding segments numbers_of_four cut cut_out
 one_segment_of bytes S w whole long count sized behind =
     let first : ltb (length bytes) 4 ≡ false = le-ltb (length bytes) 4 (omega (arith, long)) in
     let second : ltb (length bytes) 8 ≡ false = le-ltb (length bytes) 8 (omega (arith, long)) in

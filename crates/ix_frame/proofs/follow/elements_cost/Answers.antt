@@ -1,4 +1,4 @@
-use Rattle.std.proofs.Common.{◌≡◌, ◌+◌, ◌*◌, ◌≤◌, ◌<◌, ℕ, zero, suc, arith, mul-suc}
+use Rattle.std.proofs.Common.{◌+◌, ◌*◌, ◌≤◌, ◌<◌, ℕ, zero, suc, arith, mul-suc}
 use Rattle.ix_frame.proofs.follow.elements_cost.Goals as goal
 use Rattle.ix_frame.proofs.follow.elements_cost.Goals.{then-list-eq0, else-list-eq0}
 

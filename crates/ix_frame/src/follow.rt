@@ -40,7 +40,8 @@ pub fn no_struct<'a>(from: &Segment<'a>) -> Obj<'a>
 
 /// What is left of a budget after an object of this cost. F7 where there is too little.
 fn charge(cost: u64, budget: u64) -> Result<u64, FrameRule>
-    ensures { Finds (λ left. left) result (charged cost budget) }
+    ensures exact { Finds (λ left. left) result (charged cost budget) }
+    ensures taken { IfOk result (λ left. left + cost ≡ budget) }
 {
     if cost <= budget {
         Ok(budget - cost)
@@ -51,8 +52,8 @@ fn charge(cost: u64, budget: u64) -> Result<u64, FrameRule>
 
 /// The struct that is meant, with the words that it takes. F4 for another kind, F3 where it isn't in its segment.
 #[tactic(auto, unfolding(crate::specs::Target::struct_target))]
-fn struct_of<'a>(from: &Segment<'a>, aim: &Aim) -> Result<(Obj<'a>, u32), FrameRule>
-    ensures { Finds (λ x. (object_of x.0, x.1)) result (struct_target (all_of from.now) (aim_of aim.now)) }
+fn struct_of<'a>(aim: &Aim<'a>) -> Result<(Obj<'a>, u32), FrameRule>
+    ensures { Finds (λ x. (object_of x.0, x.1)) result (struct_target (all_of aim.now.beside) (aim_of aim.now)) }
 {
     let described = aim.described;
     if described % 4 != 0 {
@@ -61,7 +62,7 @@ fn struct_of<'a>(from: &Segment<'a>, aim: &Aim) -> Result<(Obj<'a>, u32), FrameR
     let data_words = (described / 0x1_0000_0000 % 0x1_0000) as u16;
     let pointer_words = (described / 0x1_0000_0000_0000) as u16;
     let words = data_words as u32 + pointer_words as u32;
-    let place = place_at(from, aim, words)?;
+    let place = place_at(aim, words)?;
     let object = Obj {
         segment: place.segment,
         start: place.start,
@@ -75,12 +76,13 @@ fn struct_of<'a>(from: &Segment<'a>, aim: &Aim) -> Result<(Obj<'a>, u32), FrameR
 #[tactic(auto, unfolding(crate::specs::Objects::struct_found))]
 fn struct_from<'a>(from: &Segment<'a>, word: u32, budget: u64) -> Result<(Obj<'a>, u64), FrameRule>
     requires { 8 * (word + 1) ≤ length from.now.bytes.now }
-    ensures { Finds (λ x. (object_of x.0, x.1)) result (struct_from (all_of from.now) from.now.number word budget) }
+    ensures exact { Finds (λ x. (object_of x.0, x.1)) result (struct_from (all_of from.now) from.now.number word budget) }
+    ensures left { IfOk result (λ x. x.1 ≤ budget) }
 {
     let Some(aim) = aim_at(from, word)? else {
         return Ok((no_struct(from), budget));
     };
-    let (object, words) = struct_of(from, &aim)?;
+    let (object, words) = struct_of(&aim)?;
     let left = charge(words.max(1) as u64, budget)?;
     Ok((object, left))
 }
@@ -93,7 +95,8 @@ pub fn struct_behind<'a>(
     budget: &mut Budget,
 ) -> Result<Obj<'a>, FrameFault>
     requires { 8 * (word + 1) ≤ length from.now.bytes.now }
-    ensures { Gives object_of result budget.old budget.new (struct_behind (all_of from.now) from.now.number word budget.old) }
+    ensures exact { Gives object_of result budget.old budget.new (struct_behind (all_of from.now) from.now.number word budget.old) }
+    ensures left { budget.new ≤ budget.old }
 {
     match struct_from(from, word, budget.left()) {
         Ok((object, left)) => {
@@ -110,7 +113,8 @@ pub fn struct_behind<'a>(
 
 /// The default of a field of structs: a list of nothing.
 pub fn no_elements<'a>(from: &Segment<'a>) -> List<'a>
-    ensures { elements_of result ≡ no_elements (all_of from.now) }
+    ensures default { elements_of result ≡ no_elements (all_of from.now) }
+    ensures empty { result.count ≡ 0 }
 {
     match from.other(0) {
         Some(segment) => List {
@@ -127,8 +131,9 @@ pub fn no_elements<'a>(from: &Segment<'a>) -> List<'a>
 /// The list of structs that is meant, with the words that it takes. F4 for another kind or element size, F3 where it
 /// isn't in its segment, F8 for a tag that isn't of struct form or elements that pass the list's words.
 #[tactic(auto, unfolding(crate::specs::Target::composite_target))]
-fn elements_of<'a>(from: &Segment<'a>, aim: &Aim) -> Result<(List<'a>, u32), FrameRule>
-    ensures { Finds (λ x. (elements_of x.0, x.1)) result (composite_target (all_of from.now) (aim_of aim.now)) }
+fn elements_of<'a>(aim: &Aim<'a>) -> Result<(List<'a>, u32), FrameRule>
+    ensures exact { Finds (λ x. (elements_of x.0, x.1)) result (composite_target (all_of aim.now.beside) (aim_of aim.now)) }
+    ensures inside { IfOk result (λ x. x.0.count * (x.0.data_words + x.0.pointer_words) ≤ x.1) }
 {
     let described = aim.described;
     if described % 4 != 1 {
@@ -138,7 +143,7 @@ fn elements_of<'a>(from: &Segment<'a>, aim: &Aim) -> Result<(List<'a>, u32), Fra
         return Err(FrameRule::F4);
     }
     let words = (described / 0x8_0000_0000) as u32;
-    let place = place_at(from, aim, words + 1)?;
+    let place = place_at(aim, words + 1)?;
     let tag = place.segment.word(place.start);
     if tag % 4 != 0 {
         return Err(FrameRule::F8);
@@ -161,7 +166,9 @@ fn elements_of<'a>(from: &Segment<'a>, aim: &Aim) -> Result<(List<'a>, u32), Fra
 
 /// What a list of structs costs: its tag, its words, and its count where its elements have no word.
 fn elements_cost(list: &List<'_>, words: u32) -> u64
-    ensures { result ≡ composite_cost (elements_of list.now) words }
+    requires { list.now.count * (list.now.data_words + list.now.pointer_words) ≤ words }
+    ensures exact { result ≡ composite_cost (elements_of list.now) words }
+    ensures each { list.now.count ≤ result }
 {
     let count = if list.data_words as u32 + list.pointer_words as u32 == 0 {
         list.count
@@ -179,12 +186,13 @@ fn elements_from<'a>(
     budget: u64,
 ) -> Result<(List<'a>, u64), FrameRule>
     requires { 8 * (word + 1) ≤ length from.now.bytes.now }
-    ensures { Finds (λ x. (elements_of x.0, x.1)) result (elements_from (all_of from.now) from.now.number word budget) }
+    ensures exact { Finds (λ x. (elements_of x.0, x.1)) result (elements_from (all_of from.now) from.now.number word budget) }
+    ensures count { IfOk result (λ x. x.0.count + x.1 ≤ budget) }
 {
     let Some(aim) = aim_at(from, word)? else {
         return Ok((no_elements(from), budget));
     };
-    let (list, words) = elements_of(from, &aim)?;
+    let (list, words) = elements_of(&aim)?;
     let left = charge(elements_cost(&list, words), budget)?;
     Ok((list, left))
 }
@@ -197,7 +205,9 @@ pub fn elements_behind<'a>(
     budget: &mut Budget,
 ) -> Result<List<'a>, FrameFault>
     requires { 8 * (word + 1) ≤ length from.now.bytes.now }
-    ensures { Gives elements_of result budget.old budget.new (elements_behind (all_of from.now) from.now.number word budget.old) }
+    ensures exact { Gives elements_of result budget.old budget.new (elements_behind (all_of from.now) from.now.number word budget.old) }
+    ensures left { budget.new ≤ budget.old }
+    ensures count { IfOk result (λ l. l.count + budget.new ≤ budget.old) }
 {
     match elements_from(from, word, budget.left()) {
         Ok((list, left)) => {
@@ -245,8 +255,9 @@ fn run_words(size: u32, count: u32) -> u32
 /// The list of this element size that is meant, with the words that it takes. F4 for another kind or element size,
 /// F3 where it isn't in its segment.
 #[tactic(auto, unfolding(crate::specs::Target::list_target))]
-fn run_at<'a>(size: u32, from: &Segment<'a>, aim: &Aim) -> Result<(Run<'a>, u32), FrameRule>
-    ensures exact { Finds (λ x. (run_of x.0, x.1)) result (list_target size (all_of from.now) (aim_of aim.now)) }
+fn run_at<'a>(size: u32, aim: &Aim<'a>) -> Result<(Run<'a>, u32), FrameRule>
+    ensures exact { Finds (λ x. (run_of x.0, x.1)) result (list_target size (all_of aim.now.beside) (aim_of aim.now)) }
+    ensures words { IfOk result (λ x. x.1 ≡ list_words size x.0.count) }
     ensures inside { IfOk result (λ x. IsRun size x.0) }
 {
     let described = aim.described;
@@ -258,7 +269,7 @@ fn run_at<'a>(size: u32, from: &Segment<'a>, aim: &Aim) -> Result<(Run<'a>, u32)
     }
     let count = (described / 0x8_0000_0000) as u32;
     let words = run_words(size, count);
-    let place = place_at(from, aim, words)?;
+    let place = place_at(aim, words)?;
     let run = Run {
         segment: place.segment,
         start: place.start,
@@ -269,16 +280,12 @@ fn run_at<'a>(size: u32, from: &Segment<'a>, aim: &Aim) -> Result<(Run<'a>, u32)
 
 /// The list of this element size that is meant, and what is left of the budget.
 #[tactic(auto, unfolding(crate::specs::Objects::list_found))]
-fn run_found<'a>(
-    size: u32,
-    from: &Segment<'a>,
-    aim: &Aim,
-    budget: u64,
-) -> Result<(Run<'a>, u64), FrameRule>
-    ensures exact { Finds (λ x. (run_of x.0, x.1)) result (list_found size (all_of from.now) budget (Some (aim_of aim.now))) }
+fn run_found<'a>(size: u32, aim: &Aim<'a>, budget: u64) -> Result<(Run<'a>, u64), FrameRule>
+    ensures exact { Finds (λ x. (run_of x.0, x.1)) result (list_found size (all_of aim.now.beside) budget (Some (aim_of aim.now))) }
+    ensures words { IfOk result (λ x. list_words size x.0.count + x.1 ≤ budget) }
     ensures inside { IfOk result (λ x. IsRun size x.0) }
 {
-    let (run, words) = run_at(size, from, aim)?;
+    let (run, words) = run_at(size, aim)?;
     let left = charge(words.max(1) as u64, budget)?;
     Ok((run, left))
 }
@@ -293,12 +300,13 @@ fn run_from<'a>(
 ) -> Result<(Run<'a>, u64), FrameRule>
     requires { 8 * (word + 1) ≤ length from.now.bytes.now }
     ensures exact { Finds (λ x. (run_of x.0, x.1)) result (list_from size (all_of from.now) from.now.number word budget) }
+    ensures words { IfOk result (λ x. list_words size x.0.count + x.1 ≤ budget) }
     ensures inside { IfOk result (λ x. IsRun size x.0) }
 {
     let Some(aim) = aim_at(from, word)? else {
         return Ok((no_run(from), budget));
     };
-    run_found(size, from, &aim, budget)
+    run_found(size, &aim, budget)
 }
 
 /// The list of this element size behind a pointer. Its cost is taken from the budget, unless there is a fault.
@@ -311,6 +319,8 @@ pub fn run_behind<'a>(
 ) -> Result<Run<'a>, FrameFault>
     requires { 8 * (word + 1) ≤ length from.now.bytes.now }
     ensures exact { Gives run_of result budget.old budget.new (list_behind size (all_of from.now) from.now.number word budget.old) }
+    ensures left { budget.new ≤ budget.old }
+    ensures words { IfOk result (λ l. list_words size l.count + budget.new ≤ budget.old) }
     ensures inside { IfOk result (IsRun size) }
 {
     match run_from(size, from, word, budget.left()) {
@@ -329,7 +339,8 @@ pub fn run_behind<'a>(
 /// The bytes of a list of bytes.
 fn run_bytes<'a>(run: &Run<'a>) -> &'a [u8]
     requires { IsRun 2 run.now }
-    ensures { result.now ≡ bytes_of (run_of run.now) }
+    ensures exact { result.now ≡ bytes_of (run_of run.now) }
+    ensures count { length result.now ≡ run.now.count }
 {
     front(
         behind(run.segment.bytes, 8 * run.start as usize),
@@ -351,7 +362,8 @@ fn spelled(bytes: &[u8]) -> Option<&str>
 /// it isn't UTF-8.
 #[tactic(auto, unfolding(crate::specs::Objects::text_of))]
 fn text_of(bytes: &[u8]) -> Result<&str, FrameRule>
-    ensures { Finds (λ text. text.now) result (text_of bytes.now) }
+    ensures exact { Finds (λ text. text.now) result (text_of bytes.now) }
+    ensures short { IfOk result (λ text. length text.now ≤ length bytes.now) }
 {
     if bytes.is_empty() {
         return Err(FrameRule::F6);
@@ -370,12 +382,14 @@ fn text_of(bytes: &[u8]) -> Result<&str, FrameRule>
 #[tactic(auto, unfolding(crate::specs::Objects::text_found))]
 fn text_from<'a>(from: &Segment<'a>, word: u32, budget: u64) -> Result<(&'a str, u64), FrameRule>
     requires { 8 * (word + 1) ≤ length from.now.bytes.now }
-    ensures { Finds (λ x. (x.0.now, x.1)) result (text_from (all_of from.now) from.now.number word budget) }
+    ensures exact { Finds (λ x. (x.0.now, x.1)) result (text_from (all_of from.now) from.now.number word budget) }
+    ensures left { IfOk result (λ x. x.1 ≤ budget) }
+    ensures short { IfOk result (λ x. length x.0.now + 8 * x.1 ≤ 8 * budget) }
 {
     let Some(aim) = aim_at(from, word)? else {
         return Ok(("", budget));
     };
-    let (run, left) = run_found(2, from, &aim, budget)?;
+    let (run, left) = run_found(2, &aim, budget)?;
     let text = text_of(run_bytes(&run))?;
     Ok((text, left))
 }
@@ -388,7 +402,9 @@ pub fn text_behind<'a>(
     budget: &mut Budget,
 ) -> Result<&'a str, FrameFault>
     requires { 8 * (word + 1) ≤ length from.now.bytes.now }
-    ensures { Gives (λ text. text.now) result budget.old budget.new (text_behind (all_of from.now) from.now.number word budget.old) }
+    ensures exact { Gives (λ text. text.now) result budget.old budget.new (text_behind (all_of from.now) from.now.number word budget.old) }
+    ensures left { budget.new ≤ budget.old }
+    ensures short { IfOk result (λ text. length text.now + 8 * budget.new ≤ 8 * budget.old) }
 {
     match text_from(from, word, budget.left()) {
         Ok((text, left)) => {

@@ -9,8 +9,9 @@ each_takes n (suc k) words h some = omega (arith, mul-suc n k)
 
 pub returns-clause-each : goal.returns-clause-each
 returns-clause-each c = elim c.if-list-eq0.branch [
-    then-list-eq0 w ↦ omega arith
+  | then-list-eq0 w ↦ omega arith
   | else-list-eq0 w ↦
       let l = c.args.list.now in
       let all : l.count ≤ c.args.words = each_takes l.count (l.data_words + l.pointer_words) c.args.words c.requires (omega arith) in
-      omega arith ]
+      omega arith
+]

@@ -1,5 +1,5 @@
 -- What the values of this crate are.
-use Rattle.std.specs.Prelude.{◌≡◌, List as Items, ℕ, ◌+◌, ◌*◌, ◌≤◌, true, length, Option, Some, None}
+use Rattle.std.specs.Prelude.{◌≡◌, List as Items, ℕ, ◌+◌, ◌*◌, ◌≤◌, true, length}
 use Rattle.ix_frame.specs.declared.frame.Frame.{Frame}
 use Rattle.ix_frame.specs.declared.segment.Segment.{Segment}
 use Rattle.ix_frame.specs.declared.target.Aim.{Aim}
@@ -35,11 +35,6 @@ pub record Holds (segments : Segments) (n start words : ℕ) (s : Segment) : Typ
 
 abbrev pub aim_of : Aim → Pointed
 aim_of a = record { described = a.described; segment = a.segment; start = a.start }
-
--- the segment read last on the way is one of these
-abbrev pub IsBeside : Segments → Option Aim → Type 0
-IsBeside segments None = Unit {0}
-IsBeside segments (Some a) = all_of a.beside ≡ segments
 
 -- these words from the place on lie in the segment with this number
 abbrev pub IsPlace : Segments → ℕ → ℕ → Place → Type 0

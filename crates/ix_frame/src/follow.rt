@@ -52,8 +52,8 @@ fn charge(cost: u64, budget: u64) -> Result<u64, FrameRule>
 
 /// The struct that is meant, with the words that it takes. F4 for another kind, F3 where it isn't in its segment.
 #[tactic(auto, unfolding(crate::specs::Target::struct_target))]
-fn struct_of<'a>(aim: &Aim<'a>) -> Result<(Obj<'a>, u32), FrameRule>
-    ensures { Finds (λ x. (object_of x.0, x.1)) result (struct_target (all_of aim.now.beside) (aim_of aim.now)) }
+fn struct_of<'a>(from: &Segment<'a>, aim: &Aim) -> Result<(Obj<'a>, u32), FrameRule>
+    ensures { Finds (λ x. (object_of x.0, x.1)) result (struct_target (all_of from.now) (aim_of aim.now)) }
 {
     let described = aim.described;
     if described % 4 != 0 {
@@ -62,7 +62,7 @@ fn struct_of<'a>(aim: &Aim<'a>) -> Result<(Obj<'a>, u32), FrameRule>
     let data_words = (described / 0x1_0000_0000 % 0x1_0000) as u16;
     let pointer_words = (described / 0x1_0000_0000_0000) as u16;
     let words = data_words as u32 + pointer_words as u32;
-    let place = place_at(aim, words)?;
+    let place = place_at(from, aim, words)?;
     let object = Obj {
         segment: place.segment,
         start: place.start,
@@ -82,7 +82,7 @@ fn struct_from<'a>(from: &Segment<'a>, word: u32, budget: u64) -> Result<(Obj<'a
     let Some(aim) = aim_at(from, word)? else {
         return Ok((no_struct(from), budget));
     };
-    let (object, words) = struct_of(&aim)?;
+    let (object, words) = struct_of(from, &aim)?;
     let left = charge(words.max(1) as u64, budget)?;
     Ok((object, left))
 }
@@ -131,8 +131,8 @@ pub fn no_elements<'a>(from: &Segment<'a>) -> List<'a>
 /// The list of structs that is meant, with the words that it takes. F4 for another kind or element size, F3 where it
 /// isn't in its segment, F8 for a tag that isn't of struct form or elements that pass the list's words.
 #[tactic(auto, unfolding(crate::specs::Target::composite_target))]
-fn elements_of<'a>(aim: &Aim<'a>) -> Result<(List<'a>, u32), FrameRule>
-    ensures exact { Finds (λ x. (elements_of x.0, x.1)) result (composite_target (all_of aim.now.beside) (aim_of aim.now)) }
+fn elements_of<'a>(from: &Segment<'a>, aim: &Aim) -> Result<(List<'a>, u32), FrameRule>
+    ensures exact { Finds (λ x. (elements_of x.0, x.1)) result (composite_target (all_of from.now) (aim_of aim.now)) }
     ensures inside { IfOk result (λ x. x.0.count * (x.0.data_words + x.0.pointer_words) ≤ x.1) }
 {
     let described = aim.described;
@@ -143,7 +143,7 @@ fn elements_of<'a>(aim: &Aim<'a>) -> Result<(List<'a>, u32), FrameRule>
         return Err(FrameRule::F4);
     }
     let words = (described / 0x8_0000_0000) as u32;
-    let place = place_at(aim, words + 1)?;
+    let place = place_at(from, aim, words + 1)?;
     let tag = place.segment.word(place.start);
     if tag % 4 != 0 {
         return Err(FrameRule::F8);
@@ -192,7 +192,7 @@ fn elements_from<'a>(
     let Some(aim) = aim_at(from, word)? else {
         return Ok((no_elements(from), budget));
     };
-    let (list, words) = elements_of(&aim)?;
+    let (list, words) = elements_of(from, &aim)?;
     let left = charge(elements_cost(&list, words), budget)?;
     Ok((list, left))
 }
@@ -255,8 +255,8 @@ fn run_words(size: u32, count: u32) -> u32
 /// The list of this element size that is meant, with the words that it takes. F4 for another kind or element size,
 /// F3 where it isn't in its segment.
 #[tactic(auto, unfolding(crate::specs::Target::list_target))]
-fn run_at<'a>(size: u32, aim: &Aim<'a>) -> Result<(Run<'a>, u32), FrameRule>
-    ensures exact { Finds (λ x. (run_of x.0, x.1)) result (list_target size (all_of aim.now.beside) (aim_of aim.now)) }
+fn run_at<'a>(size: u32, from: &Segment<'a>, aim: &Aim) -> Result<(Run<'a>, u32), FrameRule>
+    ensures exact { Finds (λ x. (run_of x.0, x.1)) result (list_target size (all_of from.now) (aim_of aim.now)) }
     ensures words { IfOk result (λ x. x.1 ≡ list_words size x.0.count) }
     ensures inside { IfOk result (λ x. IsRun size x.0) }
 {
@@ -269,7 +269,7 @@ fn run_at<'a>(size: u32, aim: &Aim<'a>) -> Result<(Run<'a>, u32), FrameRule>
     }
     let count = (described / 0x8_0000_0000) as u32;
     let words = run_words(size, count);
-    let place = place_at(aim, words)?;
+    let place = place_at(from, aim, words)?;
     let run = Run {
         segment: place.segment,
         start: place.start,
@@ -280,12 +280,17 @@ fn run_at<'a>(size: u32, aim: &Aim<'a>) -> Result<(Run<'a>, u32), FrameRule>
 
 /// The list of this element size that is meant, and what is left of the budget.
 #[tactic(auto, unfolding(crate::specs::Objects::list_found))]
-fn run_found<'a>(size: u32, aim: &Aim<'a>, budget: u64) -> Result<(Run<'a>, u64), FrameRule>
-    ensures exact { Finds (λ x. (run_of x.0, x.1)) result (list_found size (all_of aim.now.beside) budget (Some (aim_of aim.now))) }
+fn run_found<'a>(
+    size: u32,
+    from: &Segment<'a>,
+    aim: &Aim,
+    budget: u64,
+) -> Result<(Run<'a>, u64), FrameRule>
+    ensures exact { Finds (λ x. (run_of x.0, x.1)) result (list_found size (all_of from.now) budget (Some (aim_of aim.now))) }
     ensures words { IfOk result (λ x. list_words size x.0.count + x.1 ≤ budget) }
     ensures inside { IfOk result (λ x. IsRun size x.0) }
 {
-    let (run, words) = run_at(size, aim)?;
+    let (run, words) = run_at(size, from, aim)?;
     let left = charge(words.max(1) as u64, budget)?;
     Ok((run, left))
 }
@@ -306,7 +311,7 @@ fn run_from<'a>(
     let Some(aim) = aim_at(from, word)? else {
         return Ok((no_run(from), budget));
     };
-    run_found(size, &aim, budget)
+    run_found(size, from, &aim, budget)
 }
 
 /// The list of this element size behind a pointer. Its cost is taken from the budget, unless there is a fault.
@@ -389,7 +394,7 @@ fn text_from<'a>(from: &Segment<'a>, word: u32, budget: u64) -> Result<(&'a str,
     let Some(aim) = aim_at(from, word)? else {
         return Ok(("", budget));
     };
-    let (run, left) = run_found(2, &aim, budget)?;
+    let (run, left) = run_found(2, from, &aim, budget)?;
     let text = text_of(run_bytes(&run))?;
     Ok((text, left))
 }

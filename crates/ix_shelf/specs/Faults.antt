@@ -1,5 +1,5 @@
 -- Calls that are to fail, and counts that stay at the end of their type.
-use Rattle.std.specs.Prelude.{ℕ, ◌+◌, ◌-◌, ◌^◌, min, Bool, ◌&&◌, not, ◌==◌, List, length, Contains, Result, Ok, Err, if◌then◌else◌}
+use Rattle.std.specs.Prelude.{ℕ, ◌+◌, ◌-◌, ◌^◌, min, ◌&&◌, not, ◌==◌, List, length, Contains, Result, Ok, Err, if◌then◌else◌}
 
 -- a count that rises by one, or stays at the end of its type
 abbrev pub risen : ℕ → ℕ

@@ -1,5 +1,5 @@
 -- Files by name, and what the calls of a shelf do to them.
-use Rattle.std.specs.Prelude.{◌≡◌, ◌<◌, ◌≤◌, ◌+◌, ◌-◌, ◌^◌, ◌⊎◌, ℕ, min, Bool, ◌&&◌, not, ◌==◌, List, [], ◌++◌, length, take, drop, Option, Some, None, unwrap_or, option_map, if◌then◌else◌}
+use Rattle.std.specs.Prelude.{◌≡◌, ◌<◌, ◌≤◌, ◌+◌, ◌-◌, ◌^◌, ◌⊎◌, ℕ, min, ◌&&◌, not, ◌==◌, List, [], ◌++◌, length, take, drop, Option, Some, None, unwrap_or, option_map, if◌then◌else◌}
 use Rattle.std.specs.Str.{bytes_eq}
 
 -- what each name stands for: the bytes of a file, or nothing

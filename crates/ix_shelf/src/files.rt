@@ -25,7 +25,7 @@ pub enum FileFault {
 }
 
 /// The longest file that is read: 2^30 bytes.
-pub const MOST_BYTES: usize = 1 << 30;
+const MOST_BYTES: usize = 1 << 30;
 
 /// The longest piece that one append is given.
 const PIECE_BYTES: usize = 65_536;
@@ -61,7 +61,12 @@ pub fn read_file<S: Shelf>(alloc: Global, shelf: &mut S, name: &str) -> Result<V
 }
 
 /// As `read_file`, through a buffer that isn't empty.
-fn read_by<S: Shelf>(alloc: Global, shelf: &mut S, name: &str, buffer: &mut [u8]) -> Result<Vec<u8>, FileFault>
+fn read_by<S: Shelf>(
+    alloc: Global,
+    shelf: &mut S,
+    name: &str,
+    buffer: &mut [u8],
+) -> Result<Vec<u8>, FileFault>
     requires { 0 < length buffer.old }
     ensures files { S.files shelf.new ≡ S.files shelf.old }
     ensures write_faults { S.write_faults shelf.new ≡ S.write_faults shelf.old }

@@ -1,6 +1,6 @@
 //! Files in a map.
 
-ghost use Rattle.std.specs.Prelude.{◌≡◌, ◌++◌, [], length, take, drop, option_copied, unwrap_or, Some, OnOk, OnErr};
+ghost use Rattle.std.specs.Prelude.{◌≡◌, ◌++◌, [], length, take, drop, option_copied, unwrap_or, Some, IsSome, IsOk, OnOk, OnErr};
 ghost use Rattle.ix_shelf.specs.Shelf.{with_file};
 ghost use Rattle.ix_shelf.specs.MemFiles.{files_in, given_at};
 
@@ -38,11 +38,32 @@ pub fn set_file(alloc: Global, files: &mut FileMap, name: &str, bytes: &[u8]) ->
     }
 }
 
-/// Adds a piece to the end of a file, which is made where there is none. `Memory` leaves all files as before.
-pub fn add_to_file(alloc: Global, files: &mut FileMap, name: &str, piece: &[u8]) -> Result<(), Memory>
+/// Makes the file empty, a new one where there is none. `Memory` leaves all files as before, and comes only where there
+/// is none.
+pub fn empty_file(alloc: Global, files: &mut FileMap, name: &str) -> Result<(), Memory>
+    ensures ok { OnOk result (files_in files.new ≡ with_file name.now [] (files_in files.old)) }
+    ensures err { OnErr result (files_in files.new ≡ files_in files.old) }
+    ensures there { IsSome (files_in files.old name.now) → IsOk result }
+{
+    if let Some(file) = files.get_mut(name) {
+        file.clear();
+        return Ok(());
+    }
+    set_file(alloc, files, name, &[])
+}
+
+/// Adds a piece to the end of a file, which is made where there is none. `Memory` leaves all files as before, and comes
+/// only where there is none or the piece isn't empty.
+pub fn add_to_file(
+    alloc: Global,
+    files: &mut FileMap,
+    name: &str,
+    piece: &[u8],
+) -> Result<(), Memory>
     ensures ok { OnOk result (files_in files.new
         ≡ with_file name.now (unwrap_or (files_in files.old name.now) [] ++ piece.now) (files_in files.old)) }
     ensures err { OnErr result (files_in files.new ≡ files_in files.old) }
+    ensures there { IsSome (files_in files.old name.now) → length piece.now ≡ 0 → IsOk result }
 {
     if let Some(file) = files.get_mut(name) {
         return match file.extend_from_slice(piece) {

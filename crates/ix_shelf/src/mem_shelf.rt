@@ -5,7 +5,7 @@ ghost use Rattle.ix_shelf.specs.Shelf.{Files, with_file, after_append, Rose, IsA
 ghost use Rattle.ix_shelf.specs.Faults.{risen, IsNamed};
 ghost use Rattle.ix_shelf.specs.MemFiles.{given_at};
 
-use crate::mem_files::{FileMap, add_to_file, copy_at, file_in, set_file};
+use crate::mem_files::{FileMap, add_to_file, copy_at, empty_file, file_in, set_file};
 use crate::plan::Plan;
 use crate::shelf::{Failed, Shelf};
 use ix_num::Memory;
@@ -129,7 +129,7 @@ impl Shelf for MemShelf {
     }
 
     /// As of every shelf. The number of the next call rises by one. A call that is to fail does; another one makes the
-    /// file empty, or fails because memory ran out, which counts as a write fault and as starved.
+    /// file empty, or fails because memory ran out for a new one, which counts as a write fault and as starved.
     fn create(&mut self, name: &str) -> Result<(), Failed>
         ensures read_faults { read_faults_of self.new ≡ read_faults_of self.old }
         ensures write_faults { write_faults_of self.old ≤ write_faults_of self.new }
@@ -140,6 +140,7 @@ impl Shelf for MemShelf {
         ensures number { calls_of self.new ≡ risen (calls_of self.old) }
         ensures plan { failing_of self.new ≡ failing_of self.old }
         ensures named { IsNamed (failing_of self.old) (calls_of self.old) → IsErr result }
+        ensures there { ¬ IsNamed (failing_of self.old) (calls_of self.old) → IsSome (files_of self.old name.now) → IsOk result }
         ensures ok_count { OnOk result (write_faults_of self.new ≡ write_faults_of self.old) }
         ensures ok_starved { OnOk result (starved_of self.new ≡ starved_of self.old) }
         ensures err_count { OnErr result (write_faults_of self.new ≡ risen (write_faults_of self.old)) }
@@ -150,7 +151,7 @@ impl Shelf for MemShelf {
             self.write_faults = self.write_faults.saturating_add(1);
             return Err(Failed);
         }
-        match set_file(self.alloc, &mut self.files, name, &[]) {
+        match empty_file(self.alloc, &mut self.files, name) {
             Ok(()) => Ok(()),
             Err(_) => {
                 self.write_faults = self.write_faults.saturating_add(1);
@@ -161,7 +162,7 @@ impl Shelf for MemShelf {
     }
 
     /// As of every shelf. The number of the next call rises by one. A call that is to fail does; another one takes its
-    /// whole piece, or fails because memory ran out, which counts as a write fault and as starved.
+    /// whole piece, or fails because memory ran out for it, which counts as a write fault and as starved.
     fn append(&mut self, name: &str, piece: &[u8]) -> Result<usize, Failed>
         ensures read_faults { read_faults_of self.new ≡ read_faults_of self.old }
         ensures write_faults { write_faults_of self.old ≤ write_faults_of self.new }
@@ -175,6 +176,7 @@ impl Shelf for MemShelf {
         ensures plan { failing_of self.new ≡ failing_of self.old }
         ensures named { IsNamed (failing_of self.old) (calls_of self.old) → IsErr result }
         ensures whole { IfOk result (λ n. n ≡ length piece.now) }
+        ensures there { ¬ IsNamed (failing_of self.old) (calls_of self.old) → IsSome (files_of self.old name.now) → length piece.now ≡ 0 → IsOk result }
         ensures ok_count { OnOk result (write_faults_of self.new ≡ write_faults_of self.old) }
         ensures ok_starved { OnOk result (starved_of self.new ≡ starved_of self.old) }
         ensures err_count { OnErr result (write_faults_of self.new ≡ risen (write_faults_of self.old)) }

@@ -1,6 +1,6 @@
 //! A sink in memory.
 
-ghost use Rattle.std.specs.Prelude.{◌≡◌, ◌<◌, ◌≤◌, ◌++◌, ◌∷◌, [], ℕ, List, length, take, Option, Some, IsErr, IfOk, OnOk, OnErr};
+ghost use Rattle.std.specs.Prelude.{◌≡◌, ◌<◌, ◌≤◌, ◌++◌, ◌∷◌, [], ℕ, List, length, take, Option, Some, IsOk, IsErr, IfOk, OnOk, OnErr};
 ghost use Rattle.ix_shelf.specs.Shelf.{Rose};
 ghost use Rattle.ix_shelf.specs.Sink.{with_bytes};
 ghost use Rattle.ix_shelf.specs.Faults.{risen, IsNamed};
@@ -89,6 +89,7 @@ impl Sink for MemSink {
         ensures plan { failing_of self.new ≡ failing_of self.old }
         ensures named { IsNamed (failing_of self.old) (calls_of self.old) → IsErr result }
         ensures whole { IfOk result (λ n. n ≡ length piece.now) }
+        ensures empty { ¬ IsNamed (failing_of self.old) (calls_of self.old) → length piece.now ≡ 0 → IsOk result }
         ensures ok_count { OnOk result (faults_of self.new ≡ faults_of self.old) }
         ensures ok_starved { OnOk result (starved_of self.new ≡ starved_of self.old) }
         ensures err_count { OnErr result (faults_of self.new ≡ risen (faults_of self.old)) }

@@ -1,7 +1,7 @@
-use Rattle.std.proofs.Common.{◌≡◌, ◌++◌, ◌∙◌, length, take, cond, ℕ, List, Option, ap, subst, arith, rules}
+use Rattle.std.proofs.Common.{◌∙◌, length, ℕ, List, Option, subst, arith, rules}
 use Rattle.std.proofs.lemmas.List.{length-take}
 use Rattle.ix_shelf.specs.Shelf.{Files, ReadsFile}
-use Rattle.ix_shelf.proofs.Fronts.{IsFront-end, IsTooLarge-read, read_more}
+use Rattle.ix_shelf.proofs.Fronts.{IsFront-end, read_more}
 use Rattle.ix_shelf.proofs.files.read_by.Goals as goal
 
 pub returns-then-given-eq0-clause-whole : goal.returns-then-given-eq0-clause-whole
@@ -22,5 +22,5 @@ loop-given-preserved g c =
       read_faults = search rules;
       room = omega (arith, c.read_at.auto.into);
       small = omega (arith, c.in-Ok-extend_from_slice.ensures.len, c.if-given-len.false, c.len-in-loop-given.ensures, length-take {A = ℕ});
-      front = read_more told c.args.name.now bytes c.read_at.new.into c.extend_from_slice.new.self.items c.len.result (length c.loop-given.buffer) c.in-Ok.given (c.len.ensures ∙ c.loop-given.bytes.ok.0) c.loop-given.invariant.front read (omega (arith, c.in-Ok.ensures.room, c.read_at.auto.into)) (search (rules, c.in-Ok-extend_from_slice.ensures.items))
+      front = read_more told c.args.name.now bytes c.read_at.new.into c.extend_from_slice.new.self.items c.len.result (length c.loop-given.buffer) c.in-Ok.given (c.len.ensures ∙ c.loop-given.bytes.ok.0) c.loop-given.invariant.front read (omega (arith, c.in-Ok.ensures.room, c.read_at.auto.into)) (search (rules, c.in-Ok-extend_from_slice.ensures.items));
     }

@@ -1,4 +1,4 @@
-use Rattle.std.proofs.Common.{length, ◌-◌, ◌≡◌, ◌<◌, ◌≤◌, ◌+◌, ◌^◌, ℕ, List, Option, vec_len}
+use Rattle.std.proofs.Common.{length, ◌-◌, ◌≡◌, ◌<◌, ◌≤◌, ◌+◌, ◌^◌, vec_len}
 use Rattle.ix_shelf.proofs.Fronts.{IsFront}
 use Rattle.ix_shelf.proofs.files.read_by.Given as goal
 
@@ -9,7 +9,7 @@ invariant-loop-given g l = record {
   read_faults : g.S.Shelf.read_faults l.fn.shelf ≤ g.S.Shelf.read_faults l.shelf;
   room : 0 < length l.buffer;
   small : vec_len l.bytes ≤ 2 ^ 30;
-  front : IsFront (g.S.Shelf.files l.fn.shelf) l.name l.bytes.items
+  front : IsFront (g.S.Shelf.files l.fn.shelf) l.name l.bytes.items;
 }
 
 abbrev pub decreases-loop-given : goal.decreases-loop-given

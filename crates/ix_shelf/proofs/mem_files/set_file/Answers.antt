@@ -1,4 +1,4 @@
-use Rattle.std.proofs.Common.{◌≡◌, ◌∙◌, ℕ, List, Option, Some, ap, refl, rules}
+use Rattle.std.proofs.Common.{◌∙◌, ℕ, List, Some, ap}
 use Rattle.ix_shelf.specs.Shelf.{with_file}
 use Rattle.ix_shelf.specs.MemFiles.{files_in}
 use Rattle.ix_shelf.proofs.MemFiles.{files_in-updates}

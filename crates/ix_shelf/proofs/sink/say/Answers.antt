@@ -1,4 +1,4 @@
-use Rattle.std.proofs.Common.{List, ℕ, Option, ◌-◌, take, drop, length, ap, ◌∙◌, arith, rules}
+use Rattle.std.proofs.Common.{List, ℕ, Option, ◌-◌, take, drop, length, ap, ◌∙◌, rules}
 use Rattle.ix_shelf.specs.Sink.{with_bytes}
 use Rattle.ix_shelf.proofs.Pieces.{with_bytes-more, take-rest}
 use Rattle.ix_shelf.proofs.sink.say.Goals as goal
@@ -12,5 +12,5 @@ loop-at-preserved g c =
     record {
       in_range = search rules;
       put = c.in_ok-taken.ensures.put ∙ ap (λ (t : Option (List ℕ)). with_bytes (take n piece) t) c.loop-at.invariant.put ∙ with_bytes-more bytes piece at n (g.O.Sink.told c.args.out.now) (take-rest bytes at n);
-      faults = search rules
+      faults = search rules;
     }

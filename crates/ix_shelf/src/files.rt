@@ -25,7 +25,7 @@ pub enum FileFault {
 }
 
 /// The longest file that is read: 2^30 bytes.
-const MOST_BYTES: usize = 1 << 30;
+pub const MOST_BYTES: usize = 1 << 30;
 
 /// The longest piece that one append is given.
 const PIECE_BYTES: usize = 65_536;

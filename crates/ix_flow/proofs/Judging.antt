@@ -45,7 +45,7 @@ answers_contents files flow device design d n =
       design = second.0;
       has_device = first.1;
       has_design = second.1;
-      answered = ap (λ (r : Result Segments Rule). answer_of r (opened second.0)) first.2 ∙ ap (answer_of (opened_content device)) second.2
+      answered = ap (λ (r : Result Segments Rule). answer_of r (opened second.0)) first.2 ∙ ap (answer_of (opened_content device)) second.2;
     }
 
 refused : (report : Report) (a : Answer) (files : Files) (flow : Flow) → Answers files flow a → Refuses report a → TellsRefusal report flow files

@@ -34,11 +34,13 @@ pub record KeepsCounts (before after : Outside) : Type 0 where
   pub write : before.write_faults ≤ after.write_faults
   pub put : before.put_faults ≤ after.put_faults
 
--- The line was put and nothing else; only where the sink's count rose, a prefix of it.
+-- The line was put and nothing else; only where the sink's count rose, a prefix of it. What the sink told before and
+-- after, and its count before and after.
+abbrev pub PrintsLine : List ℕ → (old new : Option (List ℕ)) → (before now : ℕ) → Type 0
+PrintsLine line old new before now = (new ≡ with_bytes line old) ⊎ (Rose before now × PutsPrefix line old new)
+
 abbrev pub Prints : List ℕ → (before after : Outside) → Type 0
-Prints line before after =
-    (after.told ≡ with_bytes line before.told)
-    ⊎ (Rose before.put_faults after.put_faults × PutsPrefix line before.told after.told)
+Prints line before after = PrintsLine line before.told after.told before.put_faults after.put_faults
 
 -- The status is that of the report. One of a job that is done becomes `PutFault` where its line wasn't wholly put.
 abbrev pub IsStatusOf : reports.Report → (before after : Outside) → Status → Type 0

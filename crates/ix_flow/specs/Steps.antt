@@ -51,13 +51,18 @@ IsCaused (told.ReadFault file) files before now = Rose before now ⊎ IsAbsent f
 IsCaused told.Usage files before now = ⊥
 IsCaused (told.WriteFault file) files before now = ⊥
 IsCaused (told.Implemented cells clusters nets pips trial rounds) files before now = ⊥
+IsCaused told.OutOfMemory files before now = ⊥
 IsCaused report files before now = Unit {0}
+
+-- A job is ready for the answer to the files, where the shelf tells them.
+abbrev pub IsReadyFor : Flow → Option Files → Job → Type 0
+IsReadyFor flow files job = (a : Answer) × IsReady flow a job × ((told : Files) → files ≡ Some told → Answers told flow a)
 
 -- what has to be done after the inputs were read and judged, by the files and the count of read faults before and now
 abbrev pub IsPrepared : Flow → Option Files → (before now : ℕ) → Prepared → Type 0
 IsPrepared flow files before now (Refused t) =
     IsCaused t.report files before now × ((told : Files) → files ≡ Some told → TellsRefusal t.report flow told)
-IsPrepared flow files before now (Ready job) = (a : Answer) × IsReady flow a job × ((told : Files) → files ≡ Some told → Answers told flow a)
+IsPrepared flow files before now (Ready job) = IsReadyFor flow files job
 
 -- a fault at reading this file
 abbrev pub IsReadFault : List ℕ → Prepared → Type 0

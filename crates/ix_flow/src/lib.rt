@@ -5,9 +5,10 @@ mod answer;
 mod first_form;
 mod inputs;
 mod job;
-mod run;
+mod program;
 mod status;
 mod words;
 
 pub use answer::Answer;
+pub use program::run;
 pub use status::Status;

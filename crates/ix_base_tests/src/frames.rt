@@ -2,7 +2,7 @@
 
 ghost use Rattle.std.specs.Prelude.{◌≤◌, ◌^◌, length};
 
-use crate::frame_cases::{Case, FAR, LIST, NUMBERS, ROOT, STRUCT, TEXT, TEXTS};
+use crate::frame_cases::{Case, FAR, LIST, NUMBERS, OPENING, Opening, ROOT, STRUCT, TEXT, TEXTS};
 use crate::hex::bytes_of;
 use ix_frame::{Budget, Frame, List, Numbers, Obj, Texts};
 use ix_num::FrameFault;
@@ -199,6 +199,88 @@ fn check_cases(rt: &impl Abort, alloc: Global, call: Call, cases: &[Case]) -> Re
         check_case(rt, alloc, call, case)?;
     }
     Ok(())
+}
+
+/// Opens a file, and tells the fault or the whole budget.
+fn check_opening(rt: &impl Abort, alloc: Global, bytes: &[u8], wanted: &str) -> Result<(), Fail> {
+    let probe_bytes = bytes_of(alloc, PROBE)?;
+    let probe = open_small(&probe_bytes).ok_or("size")??;
+    let probe_root = probe.root(&mut Budget::new(&probe))?;
+    let mut text = String::new(alloc);
+    match open_small(bytes).ok_or("size")? {
+        Ok(frame) => write_left(&mut text, &probe_root, &mut Budget::new(&frame))?,
+        Err(fault) => write_fault(&mut text, fault)?,
+    }
+    assert_eq!(rt; text.as_str(), wanted);
+    Ok(())
+}
+
+/// The file of a table of so many segments, the last of them of two words, with the words that follow the table.
+fn many_segments(alloc: Global, count: u32, words: &str) -> Result<Vec<u8>, Fail> {
+    let mut bytes = Vec::new(alloc);
+    bytes.extend_from_slice(&count.wrapping_sub(1).to_le_bytes())?;
+    bytes.extend_from_slice(&[1, 0, 0, 0])?;
+    for _ in 2..count {
+        bytes.extend_from_slice(&[0, 0, 0, 0])?;
+    }
+    bytes.extend_from_slice(&[2, 0, 0, 0])?;
+    if count % 2 == 0 {
+        bytes.extend_from_slice(&[0, 0, 0, 0])?;
+    }
+    bytes.extend_from_slice(&bytes_of(alloc, words)?)?;
+    Ok(bytes)
+}
+
+/// What a struct of two data words answers for each slot: the number, the Bool and the tag.
+const SLOTS: [(u32, u32, bool, u16); 8] = [
+    (0, 2_147_581_955, true, 32_771),
+    (1, 4_294_967_294, false, 65_534),
+    (2, 65_536, false, 0),
+    (3, 1, true, 1),
+    (4, 0, false, 0),
+    (5, 0, false, 0),
+    (65_536, 0, false, 0),
+    (4_294_967_295, 0, false, 0),
+];
+
+#[test]
+fn numbers(rt: HostRuntime) -> Result<(), Fail> {
+    let bytes = bytes_of(
+        rt.alloc(),
+        "00000000 04000000 0000000002000100 03800180feffffff 0000010001000000 fcffffff00000000",
+    )?;
+    let frame = open_small(&bytes).ok_or("size")??;
+    let root = frame.root(&mut Budget::new(&frame))?;
+    for (slot, number, flag, tag) in SLOTS {
+        assert_eq!(rt; root.u32_at(slot), number, "the number in slot {slot}");
+        assert_eq!(rt; root.bool_at(slot), flag, "the Bool in slot {slot}");
+        assert_eq!(rt; root.tag_at(slot), tag, "the tag in slot {slot}");
+    }
+    assert!(rt; root.has(0) && !root.has(1) && !root.has(4_294_967_295));
+    assert!(rt; frame.has_root());
+    Ok(())
+}
+
+#[test]
+fn openings(rt: HostRuntime) -> Result<(), Fail> {
+    let alloc = rt.alloc();
+    for case in &OPENING {
+        let bytes = bytes_of(alloc, case.file)?;
+        check_opening(&rt, alloc, &bytes, case.answer)?;
+    }
+    // Two words for a root that is far and three more: 2 * 3 + 64.
+    let words = "02000000ff010000 0000000001000000 2a00000000000000";
+    let most = many_segments(alloc, 512, words)?;
+    check_opening(&rt, alloc, &most, "left 70")?;
+    let frame = open_small(&most).ok_or("size")??;
+    let root = frame.root(&mut Budget::new(&frame))?;
+    assert_eq!(rt;
+        root.u32_at(0),
+        42,
+        "the struct stands in the last of 512 segments"
+    );
+    let more = many_segments(alloc, 513, words)?;
+    check_opening(&rt, alloc, &more, "F2 at word 0:0")
 }
 
 #[test]

@@ -5,8 +5,18 @@
 #![tactic(auto)]
 
 #[cfg(test)]
+mod edge;
+#[cfg(test)]
 mod frame_cases;
 #[cfg(test)]
 mod frames;
 #[cfg(test)]
 mod hex;
+#[cfg(test)]
+mod odd;
+#[cfg(test)]
+mod pattern;
+#[cfg(test)]
+mod shelves;
+#[cfg(test)]
+mod written;

@@ -1,5 +1,7 @@
 //! Whole files of a shelf, and bytes for a sink.
 
+ghost use Rattle.std.specs.Prelude.{◌<◌};
+
 use crate::pattern::pattern;
 use ix_shelf::{Failed, FileFault, MemShelf, MemSink, Shelf, read_file, say, write_file};
 use std::alloc::Global;

@@ -1,7 +1,7 @@
 -- How a run ends.
 use Rattle.std.proofs.Common.{◌≡◌, ◌≢◌, ◌≤◌, ◌⊎◌, ◌∙◌, ℕ, List, [], ◌∷◌, Option, Some, None, Ok, option_map, ap, subst, sym, refl, arith}
 use Rattle.ix_shelf.specs.Shelf.{Files, with_file, Rose, LeavesPrefix}
-use Rattle.ix_shelf.specs.Sink.{PutsPrefix}
+use Rattle.ix_shelf.specs.Sink.{with_bytes, PutsPrefix}
 use Rattle.ix_report.specs.Lines.{line_of}
 use Rattle.ix_report.specs.declared.report.Report.{Report}
 use Rattle.ix_report.specs.declared.report.Report.TheVariants as told
@@ -38,46 +38,50 @@ empty_decodes = record {
 
 -- A run that refuses, with no file touched.
 pub refusal_run : (flow : Flow) (before after : Outside) (report : Report) (status : Status) → status ≡ status_of report → Prints (line_of report) before after
-    → after.files ≡ before.files → KeepsCounts before after → IsCaused report before.files before.read_faults after.read_faults
+    → after.files ≡ before.files → after.write_faults ≡ before.write_faults → KeepsCounts before after → IsCaused report before.files before.read_faults after.read_faults
     → ((f : Files) → before.files ≡ Some f → TellsRefusal report flow f) → IsFlowRun flow before after status
-refusal_run flow before after (told.Bad file rule place) status e p same counts cause says = record {
+refusal_run flow before after (told.Bad file rule place) status e p same write counts cause says = record {
   report = told.Bad file rule place;
   is_status = subst (IsStatusOf (told.Bad file rule place) before after) (sym e) (refl, p);
   taken = λ h. cc;
   cause = tt;
-  tells = λ f h. (says f h, same ∙ h);
+  kept = (same, write);
+  tells = says;
   counts = counts;
 }
-refusal_run flow before after (told.NotBuilt file) status e p same counts cause says = record {
+refusal_run flow before after (told.NotBuilt file) status e p same write counts cause says = record {
   report = told.NotBuilt file;
   is_status = subst (IsStatusOf (told.NotBuilt file) before after) (sym e) (refl, p);
   taken = λ h. cc;
   cause = tt;
-  tells = λ f h. (says f h, same ∙ h);
+  kept = (same, write);
+  tells = says;
   counts = counts;
 }
-refusal_run flow before after (told.ReadFault file) status e p same counts cause says = record {
+refusal_run flow before after (told.ReadFault file) status e p same write counts cause says = record {
   report = told.ReadFault file;
   is_status = subst (IsStatusOf (told.ReadFault file) before after) (sym e) (refl, p);
   taken = λ h. cc;
   cause = cause;
-  tells = λ f h. (says f h, same ∙ h);
+  kept = (same, write);
+  tells = says;
   counts = counts;
 }
-refusal_run flow before after told.Usage status e p same counts cause says = absurd cause
-refusal_run flow before after (told.Implemented cells clusters nets pips trial rounds) status e p same counts cause says = absurd cause
-refusal_run flow before after (told.WriteFault file) status e p same counts cause says = absurd cause
-refusal_run flow before after told.OutOfMemory status e p same counts cause says = absurd cause
+refusal_run flow before after told.Usage status e p same write counts cause says = absurd cause
+refusal_run flow before after (told.Implemented cells clusters nets pips trial rounds) status e p same write counts cause says = absurd cause
+refusal_run flow before after (told.WriteFault file) status e p same write counts cause says = absurd cause
+refusal_run flow before after told.OutOfMemory status e p same write counts cause says = absurd cause
 
 -- A run that finds no memory, with no file touched.
-pub memory_run : (flow : Flow) (before after : Outside) → Prints (line_of told.OutOfMemory) before after → after.files ≡ before.files → KeepsCounts before after
-    → IsFlowRun flow before after stat.OutOfMemory
-memory_run flow before after p same counts = record {
+pub memory_run : (flow : Flow) (before after : Outside) → Prints (line_of told.OutOfMemory) before after → after.files ≡ before.files
+    → after.write_faults ≡ before.write_faults → KeepsCounts before after → IsFlowRun flow before after stat.OutOfMemory
+memory_run flow before after p same write counts = record {
   report = told.OutOfMemory;
   is_status = (refl, p);
   taken = λ h. cc;
   cause = tt;
-  tells = λ f h. same ∙ h;
+  kept = (same, write);
+  tells = λ f h. tt;
   counts = counts;
 }
 
@@ -98,13 +102,14 @@ implemented flow before after job r written f h = record {
 
 -- A run that does its job and tells of it.
 pub done_run : (flow : Flow) (before after : Outside) (job : Job) (status : Status) → IsReadyFor flow before.files job → status ≡ status_of job.done.report
-    → Prints (line_of job.done.report) before after → after.files ≡ option_map (with_file flow.routed job.bytes) before.files → KeepsCounts before after
+    → after.told ≡ with_bytes (line_of job.done.report) before.told → after.files ≡ option_map (with_file flow.routed job.bytes) before.files → KeepsCounts before after
     → IsFlowRun flow before after status
 done_run flow before after job status r e p written counts = record {
   report = nothing_implemented;
-  is_status = subst (IsStatusOf nothing_implemented before after) (sym (e ∙ ap status_of r.1.report)) (refl, subst (λ (x : Report). Prints (line_of x) before after) r.1.report p);
+  is_status = subst (IsStatusOf nothing_implemented before after) (sym (e ∙ ap status_of r.1.report)) (refl, p ∙ ap (λ (x : Report). with_bytes (line_of x) before.told) r.1.report);
   taken = λ h. cc;
   cause = tt;
+  kept = tt;
   tells = implemented flow before after job r written;
   counts = counts;
 }
@@ -118,6 +123,7 @@ untold_run flow before after job r rose p written counts = record {
   is_status = (refl, rose, subst (λ (x : Report). PutsPrefix (line_of x) before.told after.told) r.1.report p);
   taken = λ h. cc;
   cause = tt;
+  kept = tt;
   tells = implemented flow before after job r written;
   counts = counts;
 }
@@ -131,6 +137,7 @@ unwritten_run flow before after job status r e p left rose counts = record {
   is_status = subst (IsStatusOf (told.WriteFault flow.routed) before after) (sym (e ∙ ap status_of r.1.fault)) (refl, subst (λ (x : Report). Prints (line_of x) before after) r.1.fault p);
   taken = λ h. cc;
   cause = rose;
+  kept = tt;
   tells = λ f h. (refl, job.bytes, job.done.report, subst (Answers f flow) r.1.answered (r.2 f h), subst (λ (o : Option Files). LeavesPrefix flow.routed job.bytes o after.files) h left);
   counts = counts;
 }

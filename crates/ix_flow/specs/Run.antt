@@ -1,5 +1,5 @@
 -- What a run of the program does to the outside, and what its status says.
-use Rattle.std.specs.Prelude.{◌≡◌, ◌≢◌, ◌≤◌, ◌⊎◌, ℕ, List, [], Option, Some, None, Ok}
+use Rattle.std.specs.Prelude.{◌≡◌, ◌≢◌, ◌≤◌, ◌⊎◌, ℕ, List, [], Option, Some, None, IsSome, Ok}
 use Rattle.ix_shelf.specs.Shelf.{Files, with_file, Rose, IsAbsent, LeavesPrefix}
 use Rattle.ix_shelf.specs.Sink.{with_bytes, PutsPrefix}
 use Rattle.ix_report.specs.Lines.{line_of}
@@ -42,8 +42,10 @@ PrintsLine line old new before now = (new ≡ with_bytes line old) ⊎ (Rose bef
 abbrev pub Prints : List ℕ → (before after : Outside) → Type 0
 Prints line before after = PrintsLine line before.told after.told before.put_faults after.put_faults
 
--- The status is that of the report. One of a job that is done becomes `PutFault` where its line wasn't wholly put.
+-- The status is that of the report. A job is done only where its whole line was put, and becomes `PutFault` where the
+-- sink failed before that; another status stays.
 abbrev pub IsStatusOf : reports.Report → (before after : Outside) → Status → Type 0
+IsStatusOf report before after stat.Done = (status_of report ≡ stat.Done) × (after.told ≡ with_bytes (line_of report) before.told)
 IsStatusOf report before after stat.PutFault =
     (status_of report ≡ stat.Done) × Rose before.put_faults after.put_faults × PutsPrefix (line_of report) before.told after.told
 IsStatusOf report before after status = (status ≡ status_of report) × Prints (line_of report) before after
@@ -53,6 +55,12 @@ abbrev pub HasCause : reports.Report → (before after : Outside) → Type 0
 HasCause (told.ReadFault file) before after = Rose before.read_faults after.read_faults ⊎ IsAbsent before.files file
 HasCause (told.WriteFault file) before after = Rose before.write_faults after.write_faults
 HasCause report before after = Unit {0}
+
+-- A run that has nothing to write changes no file, and tries none.
+abbrev pub KeepsFiles : reports.Report → (before after : Outside) → Type 0
+KeepsFiles (told.Implemented cells clusters nets pips trial rounds) before after = Unit {0}
+KeepsFiles (told.WriteFault file) before after = Unit {0}
+KeepsFiles report before after = (after.files ≡ before.files) × (after.write_faults ≡ before.write_faults)
 
 -- Both files are there, and this is the answer to their bytes.
 pub record Answers (files : Files) (flow : Flow) (is : Answer) : Type 0 where
@@ -84,16 +92,20 @@ pub record IsImplemented (report : reports.Report) (flow : Flow) (files : Files)
   pub decodes : IsEmptyNetlist bytes
   pub written : after ≡ Some (with_file flow.routed bytes files)
 
+-- The file that is blamed for a fault at reading: the device, or the design once the device was there to be read.
+abbrev pub IsFirstUnread : Flow → Files → List ℕ → Type 0
+IsFirstUnread flow files file = (file ≡ flow.device) ⊎ ((file ≡ flow.design) × IsSome (files flow.device))
+
 -- What a report says of a shelf that tells its files.
 abbrev pub Tells : reports.Report → Flow → Files → (after : Option Files) → Type 0
 Tells (told.Implemented cells clusters nets pips trial rounds) flow files after = IsImplemented (told.Implemented cells clusters nets pips trial rounds) flow files after
 Tells told.Usage flow files after = ⊥
-Tells (told.Bad file rule place) flow files after = Answers files flow (Broken file rule place) × (after ≡ Some files)
-Tells (told.NotBuilt file) flow files after = Answers files flow (Unbuilt file) × (after ≡ Some files)
-Tells (told.ReadFault file) flow files after = ((file ≡ flow.device) ⊎ (file ≡ flow.design)) × (after ≡ Some files)
+Tells (told.Bad file rule place) flow files after = Answers files flow (Broken file rule place)
+Tells (told.NotBuilt file) flow files after = Answers files flow (Unbuilt file)
+Tells (told.ReadFault file) flow files after = IsFirstUnread flow files file
 Tells (told.WriteFault file) flow files after =
     (file ≡ flow.routed) × (bytes : List ℕ) × (report : reports.Report) × Answers files flow (Written bytes report) × LeavesPrefix flow.routed bytes (Some files) after
-Tells told.OutOfMemory flow files after = after ≡ Some files
+Tells told.OutOfMemory flow files after = Unit {0}
 
 -- A run of `flow` on these files, which ends with this status.
 pub record IsFlowRun (flow : Flow) (before after : Outside) (status : Status) : Type 0 where
@@ -102,15 +114,18 @@ pub record IsFlowRun (flow : Flow) (before after : Outside) (status : Status) : 
   pub is_status : IsStatusOf report before after status
   pub taken : report ≢ told.Usage
   pub cause : HasCause report before after
+  pub kept : KeepsFiles report before after
   pub tells : (files : Files) → before.files ≡ Some files → Tells report flow files after.files
   pub counts : KeepsCounts before after
 
--- A run that refuses its words touches no file.
+-- A run that refuses its words asks nothing of the shelf.
 pub record IsRefusal (before after : Outside) (status : Status) : Type 0 where
   pub usage : status ≡ stat.Usage
   pub line : Prints (line_of told.Usage) before after
   pub files : after.files ≡ before.files
-  pub counts : KeepsCounts before after
+  pub read : after.read_faults ≡ before.read_faults
+  pub write : after.write_faults ≡ before.write_faults
+  pub put : before.put_faults ≤ after.put_faults
 
 -- A run for words, by what they are read as.
 abbrev pub IsRun : Option Flow → (before after : Outside) → Status → Type 0

@@ -12,7 +12,7 @@ use Rattle.ix_flow.specs.declared.job.Prepared.{Prepared}
 use Rattle.ix_flow.specs.declared.job.Prepared.TheVariants.{Refused, Ready}
 use Rattle.ix_flow.specs.Words.{Flow}
 use Rattle.ix_flow.specs.Answer.{empty_netlist, nothing_implemented}
-use Rattle.ix_flow.specs.Run.{Answers}
+use Rattle.ix_flow.specs.Run.{Answers, IsFirstUnread}
 
 -- This content was read of the file, where the shelf tells its files.
 abbrev pub IsContent : Option Files → List ℕ → Content → Type 0
@@ -42,7 +42,7 @@ IsJudged flow a (Ready job) = IsReady flow a job
 abbrev pub TellsRefusal : reports.Report → Flow → Files → Type 0
 TellsRefusal (told.Bad file rule place) flow files = Answers files flow (Broken file rule place)
 TellsRefusal (told.NotBuilt file) flow files = Answers files flow (Unbuilt file)
-TellsRefusal (told.ReadFault file) flow files = (file ≡ flow.device) ⊎ (file ≡ flow.design)
+TellsRefusal (told.ReadFault file) flow files = IsFirstUnread flow files file
 TellsRefusal report flow files = ⊥
 
 -- A refusal has its cause outside, or in the files.

@@ -43,7 +43,7 @@ abbrev pub IsTooLarge : Option Files → List ℕ → ℕ → Type 0
 IsTooLarge None name limit = Unit {0}
 IsTooLarge (Some files) name limit = (file : List ℕ) × (files name ≡ Some file) × (limit < length file)
 
--- The files are as they were, or the named one holds a prefix of the bytes.
+-- The files are as they were, or the named one holds a prefix of the bytes, less than all of them.
 abbrev pub LeavesPrefix : (name bytes : List ℕ) (old new : Option Files) → Type 0
 LeavesPrefix name bytes old new =
-    (new ≡ old) ⊎ ((n : ℕ) × (n ≤ length bytes) × (new ≡ option_map (with_file name (take n bytes)) old))
+    (new ≡ old) ⊎ ((n : ℕ) × (n < length bytes) × (new ≡ option_map (with_file name (take n bytes)) old))

@@ -1,4 +1,4 @@
-use Rattle.std.proofs.Common.{◌≡◌, ◌∙◌, List, ℕ, option_map, ap, subst, sym, arith, inl}
+use Rattle.std.proofs.Common.{◌≡◌, ◌∙◌, List, ℕ, option_map, ap, subst, sym, arith}
 use Rattle.ix_shelf.specs.Shelf.{with_file, LeavesPrefix}
 use Rattle.ix_shelf.specs.Sink.{with_bytes, PutsPrefix}
 use Rattle.ix_flow.specs.WordsView.{flow_view}
@@ -16,7 +16,7 @@ returns-in-Ok-say g c =
     let counts : KeepsCounts before after = record { read = omega arith; write = w.write_faults; put = s.faults } in
     let line = c.as_slice-in-Ok.ensures.value ∙ c.args.job.done.is_line in
     done_run flow before after c.args.job c.status_of.result c.requires c.status_of.ensures
-    (inl (s.all ∙ ap (λ (b : List ℕ). with_bytes b before.told) line))
+    (s.all ∙ ap (λ (b : List ℕ). with_bytes b before.told) line)
     (w.all ∙ ap (λ (b : List ℕ). option_map (with_file flow.routed b) before.files) c.as_slice.ensures)
     counts
 

@@ -1,0 +1,13 @@
+pub mod Lists
+pub mod NamesAgain
+pub mod Pointer
+pub mod Stands
+pub mod Rows
+pub mod Behind
+pub mod Whole
+pub mod Wide
+pub mod Again
+pub mod RawOf
+pub mod Table
+pub mod Files
+pub mod Proper

@@ -20,6 +20,9 @@ const WRITES: [(usize, u64); 8] = [
     (131_073, 4),
 ];
 
+/// Lengths of longer files.
+const LONGER: [usize; 4] = [1_048_575, 1_048_576, 1_048_577, 3_000_000];
+
 /// Whether the shelf has a file of this name and these bytes.
 fn holds(shelf: &MemShelf, name: &str, bytes: &[u8]) -> bool {
     match shelf.file(name) {
@@ -52,26 +55,37 @@ fn two_files(alloc: Global) -> Result<MemShelf, Fail> {
     Ok(shelf)
 }
 
-/// Writes a file and reads it again, and writes a shorter one over it.
+/// Writes a file beside another one, and reads it again.
+fn check_round(
+    rt: &impl Abort,
+    alloc: Global,
+    shelf: &mut MemShelf,
+    bytes: &[u8],
+) -> Result<(), Fail> {
+    let length = bytes.len();
+    let written = write_file(shelf, "f", bytes);
+    assert!(rt; written.is_ok(), "{length} bytes are written");
+    let read = read_file(alloc, shelf, "f");
+    assert!(rt; is_read(&read, bytes), "{length} bytes are read");
+    assert!(rt; holds(shelf, "f", bytes), "{length} bytes stand there");
+    assert!(rt; holds(shelf, "g", b"other"), "no other file changes");
+    Ok(())
+}
+
+/// Writes a file of so many bytes and reads it again, and then a shorter one over it.
 fn check_whole(rt: &impl Abort, alloc: Global, length: usize) -> Result<(), Fail> {
     let bytes = pattern(alloc, length)?;
     let mut shelf = two_files(alloc)?;
-    let written = write_file(&mut shelf, "f", &bytes);
-    assert!(rt; written.is_ok(), "{length} bytes are written");
-    assert!(rt;
-        holds(&shelf, "f", &bytes),
-        "{length} bytes stand in the file"
-    );
-    let read = read_file(alloc, &mut shelf, "f");
-    assert!(rt; is_read(&read, &bytes), "{length} bytes are read");
-    let shorter = write_file(&mut shelf, "f", b"x");
-    assert!(rt; shorter.is_ok());
-    assert!(rt;
-        holds(&shelf, "f", b"x"),
-        "a shorter file replaces the longer one"
-    );
-    assert!(rt; holds(&shelf, "g", b"other"), "no other file changes");
+    check_round(rt, alloc, &mut shelf, bytes.as_slice())?;
+    check_round(rt, alloc, &mut shelf, b"x")?;
     assert_eq!(rt; shelf.starved(), 0);
+    Ok(())
+}
+
+fn check_wholes(rt: &impl Abort, alloc: Global, lengths: &[usize]) -> Result<(), Fail> {
+    for length in lengths {
+        check_whole(rt, alloc, *length)?;
+    }
     Ok(())
 }
 
@@ -87,7 +101,16 @@ fn pieces_before(bytes: &[u8], call: u64) -> &[u8]
     }
 }
 
-/// Writes a file on a shelf of which the call with this number fails.
+/// Whether the shelf is as a write leaves it whose call with this number failed.
+fn is_left(shelf: &MemShelf, bytes: &[u8], call: u64) -> bool {
+    if call == 0 {
+        holds(shelf, "f", b"before")
+    } else {
+        holds(shelf, "f", pieces_before(bytes, call))
+    }
+}
+
+/// Writes a file on a shelf of which the call with this number fails, and then once more.
 fn check_write(
     rt: &impl Abort,
     alloc: Global,
@@ -98,27 +121,31 @@ fn check_write(
     let length = bytes.len();
     let mut shelf = two_files(alloc)?;
     shelf.fail_at(call)?;
-    let written = write_file(&mut shelf, "f", bytes);
-    let left = if call == 0 {
-        holds(&shelf, "f", b"before")
-    } else {
-        holds(&shelf, "f", pieces_before(bytes, call))
-    };
+    let written = write_file(&mut shelf, "f", bytes).is_ok();
+    assert!(rt; written == (call >= calls), "{length} bytes, call {call}");
+    let left = is_left(&shelf, bytes, call);
     assert!(rt; left, "{length} bytes, call {call}, what is left");
     if call < calls {
-        assert_eq!(rt;
-            written,
-            Err(FileFault::Write),
-            "{length} bytes, call {call}"
-        );
-        let again = write_file(&mut shelf, "f", bytes);
-        assert_eq!(rt; again, Ok(()), "a fault is over with its call");
-        assert!(rt; holds(&shelf, "f", bytes));
-    } else {
-        assert_eq!(rt; written, Ok(()), "{length} bytes, call {call}");
+        check_round(rt, alloc, &mut shelf, bytes)?;
     }
-    assert!(rt; holds(&shelf, "g", b"other"), "no other file changes");
-    assert_eq!(rt; shelf.starved(), 0);
+    Ok(())
+}
+
+/// Writes a file once for each of its first calls.
+fn check_writes(rt: &impl Abort, alloc: Global, length: usize, calls: u64) -> Result<(), Fail> {
+    let bytes = pattern(alloc, length)?;
+    for call in 0..6u64 {
+        check_write(rt, alloc, bytes.as_slice(), calls, call)?;
+    }
+    Ok(())
+}
+
+fn check_faults(rt: &impl Abort, alloc: Global, writes: &[(usize, u64)]) -> Result<(), Fail> {
+    for (length, calls) in writes {
+        check_whole(rt, alloc, *length)?;
+        check_writes(rt, alloc, *length, *calls)?;
+        check_reads(rt, alloc, *length)?;
+    }
     Ok(())
 }
 
@@ -156,27 +183,14 @@ fn check_reads(rt: &impl Abort, alloc: Global, length: usize) -> Result<(), Fail
 }
 
 #[test]
-fn whole_files(rt: HostRuntime) -> Result<(), Fail> {
-    let alloc = rt.alloc();
-    for (length, _) in WRITES {
-        check_whole(&rt, alloc, length)?;
-    }
-    for length in [1_048_575, 1_048_576, 1_048_577, 3_000_000] {
-        check_whole(&rt, alloc, length)?;
-    }
-    Ok(())
+fn files_and_faults(rt: HostRuntime) -> Result<(), Fail> {
+    check_faults(&rt, rt.alloc(), &WRITES)
 }
 
 #[test]
-fn faults(rt: HostRuntime) -> Result<(), Fail> {
+fn longer_files(rt: HostRuntime) -> Result<(), Fail> {
     let alloc = rt.alloc();
-    for (length, calls) in WRITES {
-        let bytes = pattern(alloc, length)?;
-        for call in 0..6u64 {
-            check_write(&rt, alloc, &bytes, calls, call)?;
-        }
-        check_reads(&rt, alloc, length)?;
-    }
+    check_wholes(&rt, alloc, &LONGER)?;
     check_reads(&rt, alloc, 3_000_000)
 }
 

@@ -173,7 +173,7 @@ fn check_other_places(rt: &impl Abort, alloc: Global) -> Result<(), Fail> {
     check_place(rt, alloc, key, "phys: L9 at key TABLE/S1/0")
 }
 
-/// The lines of reports that name a file of the shelf, or nothing.
+/// The lines of faults of the shelf.
 fn check_faults(rt: &impl Abort, alloc: Global) -> Result<(), Fail> {
     let read = Report::ReadFault {
         file: word(alloc, "d")?,
@@ -182,29 +182,32 @@ fn check_faults(rt: &impl Abort, alloc: Global) -> Result<(), Fail> {
     let write = Report::WriteFault {
         file: word(alloc, "a b")?,
     };
-    check_line(rt, alloc, &write, "write fault: a b")?;
-    check_line(rt, alloc, &Report::Usage, "bad words")?;
-    check_line(rt, alloc, &Report::OutOfMemory, "out of memory")?;
-    assert_eq!(rt; USAGE_LINE, b"bad words\n".as_slice());
-    assert_eq!(rt; OUT_OF_MEMORY_LINE, b"out of memory\n".as_slice());
+    check_line(rt, alloc, &write, "write fault: a b")
+}
+
+/// The lines that name nothing, which are there without memory too.
+fn check_fixed(
+    rt: &impl Abort,
+    alloc: Global,
+    report: &Report,
+    fixed: &[u8],
+    text: &str,
+) -> Result<(), Fail> {
+    check_line(rt, alloc, report, text)?;
+    let printed = line(alloc, report)?;
+    assert!(rt; printed.as_slice() == fixed, "{text}");
     Ok(())
 }
 
-#[test]
-fn messages(rt: HostRuntime) -> Result<(), Fail> {
-    for (words, pointers, hex) in ROOTS {
-        check_root(&rt, rt.alloc(), words, pointers, hex)?;
+fn check_roots(rt: &impl Abort, alloc: Global, roots: &[(u16, u16, &str)]) -> Result<(), Fail> {
+    for (words, pointers, hex) in roots {
+        check_root(rt, alloc, *words, *pointers, hex)?;
     }
     Ok(())
 }
 
-#[test]
-fn lines(rt: HostRuntime) -> Result<(), Fail> {
-    let alloc = rt.alloc();
-    check_numbered_places(&rt, alloc)?;
-    check_named_places(&rt, alloc)?;
-    check_other_places(&rt, alloc)?;
-    check_faults(&rt, alloc)?;
+/// The lines of two jobs that are done.
+fn check_done(rt: &impl Abort, alloc: Global) -> Result<(), Fail> {
     let none = Report::Implemented {
         cells: 0,
         clusters: 0,
@@ -214,7 +217,7 @@ fn lines(rt: HostRuntime) -> Result<(), Fail> {
         rounds: 1,
     };
     let none_line = "done: 0 cells, 0 clusters, 0 nets, 0 pips, trial 1, rounds 1";
-    check_line(&rt, alloc, &none, none_line)?;
+    check_line(rt, alloc, &none, none_line)?;
     let some = Report::Implemented {
         cells: 4_294_967_295,
         clusters: 10,
@@ -225,31 +228,63 @@ fn lines(rt: HostRuntime) -> Result<(), Fail> {
     };
     let some_line =
         "done: 4294967295 cells, 10 clusters, 101 nets, 18446744073709551615 pips, trial 4, rounds 50";
-    check_line(&rt, alloc, &some, some_line)
+    check_line(rt, alloc, &some, some_line)
+}
+
+/// The line of a file that breaks a rule.
+fn check_rule(
+    rt: &impl Abort,
+    alloc: Global,
+    file: File,
+    rule: Rule,
+    text: &str,
+) -> Result<(), Fail> {
+    let report = Report::Bad {
+        file,
+        rule,
+        place: Place::File,
+    };
+    check_line(rt, alloc, &report, text)
+}
+
+fn check_rules(rt: &impl Abort, alloc: Global, rules: &[(Rule, &str)]) -> Result<(), Fail> {
+    for (rule, name) in rules {
+        let text = format!(in alloc; "device: {name} at file")?;
+        check_rule(rt, alloc, File::Device, *rule, text.as_str())?;
+    }
+    Ok(())
+}
+
+fn check_files(rt: &impl Abort, alloc: Global, files: &[(File, &str)]) -> Result<(), Fail> {
+    for (file, name) in files {
+        let bad = format!(in alloc; "{name}: I1 at file")?;
+        check_rule(rt, alloc, *file, Rule::I1, bad.as_str())?;
+        let unbuilt = format!(in alloc; "not built yet: {name}")?;
+        check_line(rt, alloc, &Report::NotBuilt(*file), unbuilt.as_str())?;
+    }
+    Ok(())
+}
+
+#[test]
+fn messages(rt: HostRuntime) -> Result<(), Fail> {
+    check_roots(&rt, rt.alloc(), &ROOTS)
+}
+
+#[test]
+fn lines(rt: HostRuntime) -> Result<(), Fail> {
+    let alloc = rt.alloc();
+    check_numbered_places(&rt, alloc)?;
+    check_named_places(&rt, alloc)?;
+    check_other_places(&rt, alloc)?;
+    check_faults(&rt, alloc)?;
+    check_fixed(&rt, alloc, &Report::Usage, USAGE_LINE, "bad words")?;
+    let memory = Report::OutOfMemory;
+    check_fixed(&rt, alloc, &memory, OUT_OF_MEMORY_LINE, "out of memory")?;
+    check_done(&rt, alloc)
 }
 
 #[test]
 fn words_of_rules(rt: HostRuntime) -> Result<(), Fail> {
-    let alloc = rt.alloc();
-    for (rule, name) in RULES {
-        let report = Report::Bad {
-            file: File::Device,
-            rule,
-            place: Place::File,
-        };
-        let text = format!(in alloc; "device: {name} at file")?;
-        check_line(&rt, alloc, &report, text.as_str())?;
-    }
-    for (file, name) in FILES {
-        let report = Report::Bad {
-            file,
-            rule: Rule::I1,
-            place: Place::File,
-        };
-        let bad = format!(in alloc; "{name}: I1 at file")?;
-        check_line(&rt, alloc, &report, bad.as_str())?;
-        let unbuilt = format!(in alloc; "not built yet: {name}")?;
-        check_line(&rt, alloc, &Report::NotBuilt(file), unbuilt.as_str())?;
-    }
-    Ok(())
+    check_rules(&rt, rt.alloc(), &RULES)?;
+    check_files(&rt, rt.alloc(), &FILES)
 }

@@ -116,3 +116,24 @@ pub record IsRefusal (before after : Outside) (status : Status) : Type 0 where
 abbrev pub IsRun : Option Flow → (before after : Outside) → Status → Type 0
 IsRun None before after status = IsRefusal before after status
 IsRun (Some flow) before after status = IsFlowRun flow before after status
+
+-- nothing outside has failed
+pub record NothingFailed (before after : Outside) : Type 0 where
+  pub read : ¬ Rose before.read_faults after.read_faults
+  pub write : ¬ Rose before.write_faults after.write_faults
+  pub put : ¬ Rose before.put_faults after.put_faults
+
+-- The status that an answer has, where nothing fails; or want of memory, which may come at any time.
+abbrev pub IsStatusFor : Answer → Status → Type 0
+IsStatusFor a stat.OutOfMemory = Unit {0}
+IsStatusFor (Broken file rule place) status = status ≡ stat.Bad file rule place
+IsStatusFor (Unbuilt file) status = status ≡ stat.NotBuilt file
+IsStatusFor (Written bytes report) status = status ≡ stat.Done
+
+-- Where the words are taken, the shelf tells its files and has both inputs, and nothing fails, the status is that of the
+-- answer to the inputs.
+abbrev pub IsComplete : Option Flow → (before after : Outside) → Status → Type 0
+IsComplete None before after status = status ≡ stat.Usage
+IsComplete (Some flow) before after status =
+    (files : Files) (device design : List ℕ) → before.files ≡ Some files → files flow.device ≡ Some device → files flow.design ≡ Some design
+    → NothingFailed before after → IsStatusFor (answer device design) status

@@ -8,6 +8,7 @@ ghost use Rattle.ix_flow.specs.Answer.{rule_of, opened, opened_content, empty_ne
 use crate::first_form::{is_empty_design, is_zero_root};
 use ix_capw::Builder;
 use ix_frame::Frame;
+use ix_message::slots::phys_netlist;
 use ix_num::{FrameRule, Memory};
 use ix_rec::{Bytes, File, Place, Rule};
 use ix_report::Report;
@@ -88,7 +89,10 @@ fn empty_netlist(alloc: Global) -> Result<Bytes, Memory>
     ensures { IfOk result (λ bytes. bytes ≡ empty_netlist_file) }
 {
     let mut builder = Builder::new(alloc);
-    match builder.root(0, 6) {
+    match builder.root(
+        phys_netlist::DATA_WORDS as u16,
+        phys_netlist::POINTERS as u16,
+    ) {
         Ok(_) => Ok(Bytes::new(builder.finish()?)),
         Err(_) => Err(Memory),
     }

@@ -8,33 +8,28 @@ use Rattle.ix_report.specs.declared.report.Report.TheVariants as told
 use Rattle.ix_frame.specs.Segments.{segments, cut, cut_out, numbers_of_four}
 use Rattle.ix_frame.specs.Target.{target, struct_target, placed}
 use Rattle.ix_frame.specs.Objects.{root_of, struct_behind, struct_found, text_at, text_behind, text_found, list_at, list_behind, list_found, elements_at, elements_behind, elements_found}
-use Rattle.ix_capw.specs.Frame.{root_segment}
+use Rattle.ix_capw.specs.Frame.{root_segment, frame_bytes}
+use Rattle.ix_message.specs.Reading.{row_at, each_from, texts_from, texts_at, value_at, root_at}
+use Rattle.ix_message.specs.Names.{record_of, numbered, uses, first_uses, place_in}
+use Rattle.ix_message.specs.Indexes.{steps, first_unfit}
+use Rattle.ix_message.specs.Layout.{pointer_section, texts_laid, structs_laid, section_of}
+use Rattle.ix_message.specs.Message.{numbers_in_segments, reading, segment_for, encoding}
+use Rattle.ix_message.specs.Phys.{phys_netlist}
 use Rattle.ix_flow.specs.declared.answer.Answer.{Answer}
 use Rattle.ix_flow.specs.declared.answer.Answer.TheVariants.{Written}
 use Rattle.ix_flow.specs.declared.job.Job.{Job}
 use Rattle.ix_flow.specs.declared.status.Status.{Status}
 use Rattle.ix_flow.specs.declared.status.Status.TheVariants as stat
 use Rattle.ix_flow.specs.Words.{Flow}
-use Rattle.ix_flow.specs.Answer.{empty_netlist, nothing_implemented}
+use Rattle.ix_flow.specs.Answer.{empty_netlist, empty_netlist_file, nothing_implemented}
 use Rattle.ix_flow.specs.Status.{status_of}
-use Rattle.ix_flow.specs.Run.{Outside, KeepsCounts, Prints, IsStatusOf, Answers, IsEmptyNetlist, IsImplemented, Tells, IsFlowRun}
+use Rattle.ix_flow.specs.Run.{Outside, KeepsCounts, Prints, IsStatusOf, Answers, IsImplemented, Tells, IsFlowRun}
 use Rattle.ix_flow.specs.Steps.{IsReady, IsReadyFor, TellsRefusal, IsCaused}
 
-empty_decodes : IsEmptyNetlist empty_netlist
-unfolding segments cut cut_out numbers_of_four root_of struct_behind target struct_found struct_target placed text_at text_behind text_found list_at list_behind list_found elements_at elements_behind elements_found
-empty_decodes = record {
-  all = root_segment 0 6 ∷ [];
-  root = record { segments = root_segment 0 6 ∷ []; segment = 0; start = 1; data_words = 0; pointer_words = 6 };
-  left = 72;
-  opens = refl;
-  reads = refl;
-  name = refl;
-  strings = refl;
-  placements = refl;
-  nets = refl;
-  site_instances = refl;
-  properties = refl;
-}
+-- the netlist that is written reads as itself
+empty_decodes : reading phys_netlist empty_netlist_file ≡ Ok empty_netlist
+unfolding numbers_of_four cut cut_out segments target placed struct_target struct_found struct_behind text_found text_behind list_found list_behind elements_found elements_behind text_at list_at elements_at root_of row_at each_from texts_from texts_at value_at root_at record_of steps first_unfit numbers_in_segments reading numbered uses first_uses place_in pointer_section texts_laid structs_laid section_of segment_for encoding
+empty_decodes = refl
 
 -- A run that refuses, with no file touched.
 pub refusal_run : (flow : Flow) (before after : Outside) (report : Report) (status : Status) → status ≡ status_of report → Prints (line_of report) before after
@@ -86,15 +81,15 @@ memory_run flow before after p same write counts = record {
 }
 
 -- the answer for which a job is ready, in full
-ready_answers : (flow : Flow) (files : Files) (a : Answer) (job : Job) → IsReady flow a job → Answers files flow a → Answers files flow (Written empty_netlist nothing_implemented)
+ready_answers : (flow : Flow) (files : Files) (a : Answer) (job : Job) → IsReady flow a job → Answers files flow a → Answers files flow (Written empty_netlist_file nothing_implemented)
 ready_answers flow files a job r h =
-    subst (Answers files flow) (r.answered ∙ ap (λ (b : List ℕ). Written b job.done.report) r.bytes ∙ ap (Written empty_netlist) r.report) h
+    subst (Answers files flow) (r.answered ∙ ap (λ (b : List ℕ). Written b job.done.report) r.bytes ∙ ap (Written empty_netlist_file) r.report) h
 
 -- the netlist was written
 implemented : (flow : Flow) (before after : Outside) (job : Job) → IsReadyFor flow before.files job → after.files ≡ option_map (with_file flow.routed job.bytes) before.files
     → (f : Files) → before.files ≡ Some f → Tells nothing_implemented flow f after.files
 implemented flow before after job r written f h = record {
-  bytes = empty_netlist;
+  bytes = empty_netlist_file;
   answers = ready_answers flow f r.0 job r.1 (r.2 f h);
   decodes = empty_decodes;
   written = written ∙ ap (option_map (with_file flow.routed job.bytes)) h ∙ ap (λ (b : List ℕ). Some (with_file flow.routed b f)) r.1.bytes;
@@ -141,3 +136,8 @@ unwritten_run flow before after job status r e p left rose counts = record {
   tells = λ f h. (refl, job.bytes, job.done.report, subst (Answers f flow) r.1.answered (r.2 f h), subst (λ (o : Option Files). LeavesPrefix flow.routed job.bytes o after.files) h left);
   counts = counts;
 }
+
+-- what the builder makes is the file of that netlist
+pub empty_built : frame_bytes (root_segment 0 6) ≡ empty_netlist_file
+unfolding numbered uses first_uses place_in pointer_section texts_laid structs_laid section_of segment_for encoding
+empty_built = refl

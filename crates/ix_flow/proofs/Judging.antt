@@ -15,7 +15,7 @@ use Rattle.ix_flow.specs.declared.job.Job.{Job}
 use Rattle.ix_flow.specs.declared.job.Prepared.{Prepared}
 use Rattle.ix_flow.specs.declared.job.Prepared.TheVariants.{Refused, Ready}
 use Rattle.ix_flow.specs.Words.{Flow}
-use Rattle.ix_flow.specs.Answer.{opened, opened_content, judged, answer_of, empty_netlist, nothing_implemented}
+use Rattle.ix_flow.specs.Answer.{opened, opened_content, judged, answer_of, empty_netlist_file, nothing_implemented}
 use Rattle.ix_flow.specs.Run.{Answers}
 use Rattle.ix_flow.specs.Steps.{IsContent, IsReady, Refuses, IsJudged, TellsRefusal, IsCaused, IsPrepared}
 
@@ -25,7 +25,7 @@ judged_written file built (Ok all) next b r h =
 judged_written file built (Err rule) next b r h = cc
 
 -- the one netlist that is written
-pub written_is : (d n : Result Segments Rule) (b : List ℕ) (r : Report) → answer_of d n ≡ Written b r → (b ≡ empty_netlist) × (r ≡ nothing_implemented)
+pub written_is : (d n : Result Segments Rule) (b : List ℕ) (r : Report) → answer_of d n ≡ Written b r → (b ≡ empty_netlist_file) × (r ≡ nothing_implemented)
 unfolding answer_of
 written_is d n b r h = let e = judged_written _ _ n _ b r (judged_written _ _ d _ b r h) in ((cc), (cc))
 

@@ -1,3 +1,4 @@
 pub mod Walks
 pub mod Judging
 pub mod Ending
+pub mod Complete

@@ -1,5 +1,5 @@
 -- What the program answers to the bytes of its two files, where nothing fails and memory doesn't run out.
-use Rattle.std.specs.Prelude.{ℕ, ◌^◌, Bool, nat_lt, List, length, Result, Ok, Err, if◌then◌else◌}
+use Rattle.std.specs.Prelude.{ℕ, ◌^◌, Bool, nat_lt, List, [], length, Result, Ok, Err, if◌then◌else◌}
 use Rattle.ix_num.specs.declared.fault.FrameRule.{FrameRule}
 use Rattle.ix_num.specs.declared.fault.FrameRule.TheVariants as frame
 use Rattle.ix_rec.specs.declared.place.Rule.{Rule}
@@ -10,7 +10,10 @@ use Rattle.ix_rec.specs.declared.place.Place.TheVariants as places
 use Rattle.ix_report.specs.declared.report.Report as reports
 use Rattle.ix_report.specs.declared.report.Report.TheVariants.{Implemented}
 use Rattle.ix_frame.specs.Segments.{Segments, segments}
-use Rattle.ix_capw.specs.Frame.{root_segment, frame_bytes}
+use Rattle.ix_message.specs.Shape.{Value}
+use Rattle.ix_message.specs.Names.{Datum}
+use Rattle.ix_message.specs.Message.{encoding}
+use Rattle.ix_message.specs.Phys.{phys_netlist}
 use Rattle.ix_flow.specs.declared.answer.Answer.{Answer}
 use Rattle.ix_flow.specs.declared.answer.Answer.TheVariants.{Broken, Unbuilt, Written}
 use Rattle.ix_flow.specs.declared.answer.Content.{Content}
@@ -41,9 +44,13 @@ abbrev pub judged : files.File → (built : Segments → Bool) → Result Segmen
 judged file built (Ok all) next = if built all then next else Unbuilt file
 judged file built (Err rule) next = Broken file rule places.File
 
--- a physical netlist without a name, placements or nets: six pointers, all zero
-abbrev pub empty_netlist : List ℕ
-empty_netlist = frame_bytes (root_segment 0 6)
+-- The netlist of a device without a name and a design without cells: no placements, nets, site instances or properties.
+abbrev pub empty_netlist : Value Datum phys_netlist
+empty_netlist = ([], ([], ([], ([], ([], ([], tt))))))
+
+-- the file of that netlist
+abbrev pub empty_netlist_file : List ℕ
+empty_netlist_file = encoding phys_netlist empty_netlist
 
 -- what is told of a design without cells
 abbrev pub nothing_implemented : reports.Report
@@ -51,7 +58,7 @@ nothing_implemented = Implemented 0 0 0 0 1 1
 
 -- the device is judged before the design
 unfoldable pub answer_of : (device design : Result Segments Rule) → Answer
-answer_of device design = judged Device is_zero_root device (judged Design is_empty_design design (Written empty_netlist nothing_implemented))
+answer_of device design = judged Device is_zero_root device (judged Design is_empty_design design (Written empty_netlist_file nothing_implemented))
 
 abbrev pub answer : (device design : List ℕ) → Answer
 answer device design = answer_of (opened device) (opened design)

@@ -5,15 +5,14 @@ use Rattle.ix_shelf.specs.Sink.{with_bytes, PutsPrefix}
 use Rattle.ix_report.specs.Lines.{line_of}
 use Rattle.ix_report.specs.declared.report.Report as reports
 use Rattle.ix_report.specs.declared.report.Report.TheVariants as told
-use Rattle.ix_frame.specs.Segments.{Segments, segments}
-use Rattle.ix_frame.specs.Target.{Object}
-use Rattle.ix_frame.specs.Objects.{no_elements, root_of, whole_budget, text_at, list_at, elements_at}
+use Rattle.ix_message.specs.Message.{reading}
+use Rattle.ix_message.specs.Phys.{phys_netlist}
 use Rattle.ix_flow.specs.declared.answer.Answer.{Answer}
 use Rattle.ix_flow.specs.declared.answer.Answer.TheVariants.{Broken, Unbuilt, Written}
 use Rattle.ix_flow.specs.declared.status.Status.{Status}
 use Rattle.ix_flow.specs.declared.status.Status.TheVariants as stat
 use Rattle.ix_flow.specs.Words.{Flow}
-use Rattle.ix_flow.specs.Answer.{answer}
+use Rattle.ix_flow.specs.Answer.{answer, empty_netlist}
 use Rattle.ix_flow.specs.Status.{status_of}
 
 -- a shelf and a sink at one moment: what they tell, and how often they have failed
@@ -70,26 +69,12 @@ pub record Answers (files : Files) (flow : Flow) (is : Answer) : Type 0 where
   pub has_design : files flow.design ≡ Some design
   pub answered : answer device design ≡ is
 
--- The bytes are a frame whose root is a physical netlist with an empty name and no strings, placements, nets, site
--- instances or properties (slots 0 to 5 of its root).
-pub record IsEmptyNetlist (bytes : List ℕ) : Type 0 where
-  pub all : Segments
-  pub root : Object
-  pub left : ℕ
-  pub opens : segments bytes ≡ Ok all
-  pub reads : root_of all (whole_budget all) ≡ Ok (root, left)
-  pub name : text_at root 0 left ≡ Ok ([], left)
-  pub strings : list_at 6 root 1 left ≡ Ok (no_elements all, left)
-  pub placements : elements_at root 2 left ≡ Ok (no_elements all, left)
-  pub nets : elements_at root 3 left ≡ Ok (no_elements all, left)
-  pub site_instances : elements_at root 4 left ≡ Ok (no_elements all, left)
-  pub properties : elements_at root 5 left ≡ Ok (no_elements all, left)
-
--- The named file holds the netlist that is the answer, and no other file has changed.
+-- The named file holds the bytes that are the answer, no other file has changed, and the bytes read as a physical
+-- netlist: today always that without cells.
 pub record IsImplemented (report : reports.Report) (flow : Flow) (files : Files) (after : Option Files) : Type 0 where
   pub bytes : List ℕ
   pub answers : Answers files flow (Written bytes report)
-  pub decodes : IsEmptyNetlist bytes
+  pub decodes : reading phys_netlist bytes ≡ Ok empty_netlist
   pub written : after ≡ Some (with_file flow.routed bytes files)
 
 -- The file that is blamed for a fault at reading: the device, or the design once the device was there to be read.
@@ -131,3 +116,24 @@ pub record IsRefusal (before after : Outside) (status : Status) : Type 0 where
 abbrev pub IsRun : Option Flow → (before after : Outside) → Status → Type 0
 IsRun None before after status = IsRefusal before after status
 IsRun (Some flow) before after status = IsFlowRun flow before after status
+
+-- nothing outside has failed
+pub record NothingFailed (before after : Outside) : Type 0 where
+  pub read : ¬ Rose before.read_faults after.read_faults
+  pub write : ¬ Rose before.write_faults after.write_faults
+  pub put : ¬ Rose before.put_faults after.put_faults
+
+-- The status that an answer has, where nothing fails; or want of memory, which may come at any time.
+abbrev pub IsStatusFor : Answer → Status → Type 0
+IsStatusFor a stat.OutOfMemory = Unit {0}
+IsStatusFor (Broken file rule place) status = status ≡ stat.Bad file rule place
+IsStatusFor (Unbuilt file) status = status ≡ stat.NotBuilt file
+IsStatusFor (Written bytes report) status = status ≡ stat.Done
+
+-- Where the words are taken, the shelf tells its files and has both inputs, and nothing fails, the status is that of the
+-- answer to the inputs.
+abbrev pub IsComplete : Option Flow → (before after : Outside) → Status → Type 0
+IsComplete None before after status = status ≡ stat.Usage
+IsComplete (Some flow) before after status =
+    (files : Files) (device design : List ℕ) → before.files ≡ Some files → files flow.device ≡ Some device → files flow.design ≡ Some design
+    → NothingFailed before after → IsStatusFor (answer device design) status

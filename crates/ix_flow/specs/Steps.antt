@@ -11,7 +11,7 @@ use Rattle.ix_flow.specs.declared.job.Job.{Job}
 use Rattle.ix_flow.specs.declared.job.Prepared.{Prepared}
 use Rattle.ix_flow.specs.declared.job.Prepared.TheVariants.{Refused, Ready}
 use Rattle.ix_flow.specs.Words.{Flow}
-use Rattle.ix_flow.specs.Answer.{empty_netlist, nothing_implemented}
+use Rattle.ix_flow.specs.Answer.{empty_netlist_file, nothing_implemented}
 use Rattle.ix_flow.specs.Run.{Answers, IsFirstUnread}
 
 -- This content was read of the file, where the shelf tells its files.
@@ -23,7 +23,7 @@ IsContent (Some files) name TooLong = (bytes : List ℕ) × (files name ≡ Some
 -- A job is ready for this answer, and for a fault at the file that it writes.
 pub record IsReady (flow : Flow) (a : Answer) (job : Job) : Type 0 where
   pub answered : a ≡ Written job.bytes job.done.report
-  pub bytes : job.bytes ≡ empty_netlist
+  pub bytes : job.bytes ≡ empty_netlist_file
   pub report : job.done.report ≡ nothing_implemented
   pub fault : job.fault.report ≡ told.WriteFault flow.routed
 

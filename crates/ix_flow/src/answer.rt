@@ -3,11 +3,12 @@
 ghost use Rattle.std.specs.Prelude.{◌≡◌, IfOk};
 ghost use Rattle.ix_frame.specs.Result.{Finds};
 ghost use Rattle.ix_frame.specs.Views.{segments_of};
-ghost use Rattle.ix_flow.specs.Answer.{rule_of, opened, opened_content, empty_netlist, answer_of};
+ghost use Rattle.ix_flow.specs.Answer.{rule_of, opened, opened_content, empty_netlist_file, answer_of};
 
 use crate::first_form::{is_empty_design, is_zero_root};
 use ix_capw::Builder;
 use ix_frame::Frame;
+use ix_message::slots::phys_netlist;
 use ix_num::{FrameRule, Memory};
 use ix_rec::{Bytes, File, Place, Rule};
 use ix_report::Report;
@@ -85,10 +86,13 @@ fn opened_content(content: &Content) -> Result<Frame<'_>, Rule>
 
 // A physical netlist without a name, placements or nets.
 fn empty_netlist(alloc: Global) -> Result<Bytes, Memory>
-    ensures { IfOk result (λ bytes. bytes ≡ empty_netlist) }
+    ensures { IfOk result (λ bytes. bytes ≡ empty_netlist_file) }
 {
     let mut builder = Builder::new(alloc);
-    match builder.root(0, 6) {
+    match builder.root(
+        phys_netlist::DATA_WORDS as u16,
+        phys_netlist::POINTERS as u16,
+    ) {
         Ok(_) => Ok(Bytes::new(builder.finish()?)),
         Err(_) => Err(Memory),
     }

@@ -7,6 +7,7 @@ ghost use Rattle.ix_flow.specs.FirstForm.{is_zero_root, texts_read, parts_of, ar
 ghost use Rattle.ix_flow.specs.PartsView.{view_of};
 
 use ix_frame::{Budget, Frame, List, Obj, Texts};
+use ix_message::slots::{cell, cell_declaration, cell_instance, netlist};
 use ix_num::FrameFault;
 
 // The parts of a logical netlist's root that matter here.
@@ -40,13 +41,13 @@ fn read_parts<'a>(frame: &Frame<'a>, budget: &mut Budget) -> Result<Parts<'a>, F
     ensures fault { IfErr result (λ fault. parts_of (segments_of frame.now) ≡ Err fault) }
 {
     let root = frame.root(budget)?;
-    let strings = root.texts(3, budget)?;
+    let strings = root.texts(netlist::STR_LIST, budget)?;
     read_texts(&strings, budget)?;
-    let _name = root.text(0, budget)?;
-    let top = root.obj(2, budget)?;
-    let declarations = root.list(4, budget)?;
-    let instances = root.list(6, budget)?;
-    let cells = root.list(7, budget)?;
+    let _name = root.text(netlist::NAME, budget)?;
+    let top = root.obj(netlist::TOP_INST, budget)?;
+    let declarations = root.list(netlist::CELL_DECLS, budget)?;
+    let instances = root.list(netlist::INST_LIST, budget)?;
+    let cells = root.list(netlist::CELL_LIST, budget)?;
     Ok(Parts {
         root,
         strings,
@@ -60,7 +61,9 @@ fn read_parts<'a>(frame: &Frame<'a>, budget: &mut Budget) -> Result<Parts<'a>, F
 fn is_plain_instance(strings: u32, declarations: u32, instance: &Obj<'_>) -> bool
     ensures { result ≡ is_plain_instance strings declarations (object_of instance.now) }
 {
-    instance.u32_at(0) < strings && instance.u32_at(1) < declarations && !instance.has(0)
+    instance.u32_at(cell_instance::NAME) < strings
+        && instance.u32_at(cell_instance::CELL) < declarations
+        && !instance.has(cell_instance::PROP_MAP)
 }
 
 fn are_plain_instances(strings: u32, declarations: u32, instances: &List<'_>) -> bool
@@ -77,7 +80,8 @@ fn are_plain_instances(strings: u32, declarations: u32, instances: &List<'_>) ->
 fn is_plain_declaration(strings: u32, declaration: &Obj<'_>) -> bool
     ensures { result ≡ is_plain_declaration strings (object_of declaration.now) }
 {
-    declaration.u32_at(0) < strings && !declaration.has(0)
+    declaration.u32_at(cell_declaration::NAME) < strings
+        && !declaration.has(cell_declaration::PORTS)
 }
 
 fn are_plain_declarations(strings: u32, declarations: &List<'_>) -> bool
@@ -91,10 +95,10 @@ fn are_plain_declarations(strings: u32, declarations: &List<'_>) -> bool
     true
 }
 
-fn has_no_instances(cell: &Obj<'_>, budget: &mut Budget) -> bool
-    ensures { result ≡ has_no_instances (object_of cell.now) budget.old }
+fn has_no_instances(owner: &Obj<'_>, budget: &mut Budget) -> bool
+    ensures { result ≡ has_no_instances (object_of owner.now) budget.old }
 {
-    match cell.numbers(0, budget) {
+    match owner.numbers(cell::INSTS, budget) {
         Ok(numbers) => numbers.len() == 0,
         Err(_) => false,
     }
@@ -109,8 +113,10 @@ fn is_empty_top(parts: &Parts<'_>, budget: &mut Budget) -> bool
     if parts.cells.len() != 1 {
         return false;
     }
-    let cell = parts.cells.at(0);
-    cell.u32_at(0) == parts.top.u32_at(1) && !cell.has(1) && has_no_instances(&cell, budget)
+    let first = parts.cells.at(0);
+    first.u32_at(cell::INDEX) == parts.top.u32_at(cell_instance::CELL)
+        && !first.has(cell::NETS)
+        && has_no_instances(&first, budget)
 }
 
 #[tactic(auto, unfolding(crate::specs::FirstForm::are_plain))]
@@ -119,8 +125,8 @@ fn are_plain(parts: &Parts<'_>, budget: &mut Budget) -> bool
 {
     let strings = parts.strings.len();
     let declarations = parts.declarations.len();
-    !parts.root.has(1)
-        && !parts.root.has(5)
+    !parts.root.has(netlist::PROP_MAP)
+        && !parts.root.has(netlist::PORT_LIST)
         && is_plain_instance(strings, declarations, &parts.top)
         && are_plain_declarations(strings, &parts.declarations)
         && are_plain_instances(strings, declarations, &parts.instances)

@@ -5,7 +5,7 @@ ghost use Rattle.ix_report.specs.Lines.{line_of};
 ghost use Rattle.ix_flow.specs.Words.{flow_of};
 ghost use Rattle.ix_flow.specs.WordsView.{flow_view};
 ghost use Rattle.ix_flow.specs.Status.{status_of};
-ghost use Rattle.ix_flow.specs.Run.{PrintsLine, outside, IsFlowRun, IsRun};
+ghost use Rattle.ix_flow.specs.Run.{PrintsLine, outside, IsFlowRun, IsRun, IsComplete};
 ghost use Rattle.ix_flow.specs.Steps.{IsReadyFor};
 
 use crate::inputs::prepare;
@@ -80,7 +80,12 @@ fn run_flow<S: Shelf, O: Sink>(
 ///
 /// Memory is taken before the first file is created, and not after.
 pub fn run<S: Shelf, O: Sink>(alloc: Global, words: &[String], shelf: &mut S, out: &mut O) -> Status
-    ensures { IsRun (flow_of (map string_bytes words.now))
+    ensures run { IsRun (flow_of (map string_bytes words.now))
+        (outside S.files S.read_faults S.write_faults O.told O.faults shelf.old out.old)
+        (outside S.files S.read_faults S.write_faults O.told O.faults shelf.new out.new) result }
+
+    // It follows that where nothing fails the status is that of the answer to the inputs.
+    ensures complete { IsComplete (flow_of (map string_bytes words.now))
         (outside S.files S.read_faults S.write_faults O.told O.faults shelf.old out.old)
         (outside S.files S.read_faults S.write_faults O.told O.faults shelf.new out.new) result }
 {

@@ -121,6 +121,9 @@ words-cut_out bytes h =
 pub budget_of : (bytes : List ℕ) (n : ℕ) → IsFrame bytes → n ≡ little_number 4 bytes → 2 * ((length bytes - 8 * ((n + 1) / 2 + 1)) / 8) + 64 ≡ whole_budget (cut_out bytes)
 budget_of bytes n h e = rw (e, words-cut_out bytes h) refl
 
+pub budget_short : (bytes n : ℕ) → bytes ≤ 2 ^ 30 → 2 * ((bytes - 8 * ((n + 1) / 2 + 1)) / 8) + 64 ≤ 2 ^ 28 + 64
+budget_short bytes n h = omega arith
+
 pub past_all : (bytes : List ℕ) (last number : ℕ) → last ≡ little_number 4 bytes → last < number → length (cut_out bytes) ≤ number
 past_all bytes last number e lt = rw (length-cut_out bytes, ← e) (omega arith)
 

@@ -40,7 +40,8 @@ pub fn no_struct<'a>(from: &Segment<'a>) -> Obj<'a>
 
 /// What is left of a budget after an object of this cost. F7 where there is too little.
 fn charge(cost: u64, budget: u64) -> Result<u64, FrameRule>
-    ensures { Finds (λ left. left) result (charged cost budget) }
+    ensures exact { Finds (λ left. left) result (charged cost budget) }
+    ensures taken { IfOk result (λ left. left + cost ≡ budget) }
 {
     if cost <= budget {
         Ok(budget - cost)
@@ -75,7 +76,8 @@ fn struct_of<'a>(from: &Segment<'a>, aim: &Aim) -> Result<(Obj<'a>, u32), FrameR
 #[tactic(auto, unfolding(crate::specs::Objects::struct_found))]
 fn struct_from<'a>(from: &Segment<'a>, word: u32, budget: u64) -> Result<(Obj<'a>, u64), FrameRule>
     requires { 8 * (word + 1) ≤ length from.now.bytes.now }
-    ensures { Finds (λ x. (object_of x.0, x.1)) result (struct_from (all_of from.now) from.now.number word budget) }
+    ensures exact { Finds (λ x. (object_of x.0, x.1)) result (struct_from (all_of from.now) from.now.number word budget) }
+    ensures left { IfOk result (λ x. x.1 ≤ budget) }
 {
     let Some(aim) = aim_at(from, word)? else {
         return Ok((no_struct(from), budget));
@@ -93,7 +95,8 @@ pub fn struct_behind<'a>(
     budget: &mut Budget,
 ) -> Result<Obj<'a>, FrameFault>
     requires { 8 * (word + 1) ≤ length from.now.bytes.now }
-    ensures { Gives object_of result budget.old budget.new (struct_behind (all_of from.now) from.now.number word budget.old) }
+    ensures exact { Gives object_of result budget.old budget.new (struct_behind (all_of from.now) from.now.number word budget.old) }
+    ensures left { budget.new ≤ budget.old }
 {
     match struct_from(from, word, budget.left()) {
         Ok((object, left)) => {
@@ -110,7 +113,8 @@ pub fn struct_behind<'a>(
 
 /// The default of a field of structs: a list of nothing.
 pub fn no_elements<'a>(from: &Segment<'a>) -> List<'a>
-    ensures { elements_of result ≡ no_elements (all_of from.now) }
+    ensures default { elements_of result ≡ no_elements (all_of from.now) }
+    ensures empty { result.count ≡ 0 }
 {
     match from.other(0) {
         Some(segment) => List {
@@ -128,7 +132,8 @@ pub fn no_elements<'a>(from: &Segment<'a>) -> List<'a>
 /// isn't in its segment, F8 for a tag that isn't of struct form or elements that pass the list's words.
 #[tactic(auto, unfolding(crate::specs::Target::composite_target))]
 fn elements_of<'a>(from: &Segment<'a>, aim: &Aim) -> Result<(List<'a>, u32), FrameRule>
-    ensures { Finds (λ x. (elements_of x.0, x.1)) result (composite_target (all_of from.now) (aim_of aim.now)) }
+    ensures exact { Finds (λ x. (elements_of x.0, x.1)) result (composite_target (all_of from.now) (aim_of aim.now)) }
+    ensures inside { IfOk result (λ x. x.0.count * (x.0.data_words + x.0.pointer_words) ≤ x.1) }
 {
     let described = aim.described;
     if described % 4 != 1 {
@@ -161,7 +166,9 @@ fn elements_of<'a>(from: &Segment<'a>, aim: &Aim) -> Result<(List<'a>, u32), Fra
 
 /// What a list of structs costs: its tag, its words, and its count where its elements have no word.
 fn elements_cost(list: &List<'_>, words: u32) -> u64
-    ensures { result ≡ composite_cost (elements_of list.now) words }
+    requires { list.now.count * (list.now.data_words + list.now.pointer_words) ≤ words }
+    ensures exact { result ≡ composite_cost (elements_of list.now) words }
+    ensures each { list.now.count ≤ result }
 {
     let count = if list.data_words as u32 + list.pointer_words as u32 == 0 {
         list.count
@@ -179,7 +186,8 @@ fn elements_from<'a>(
     budget: u64,
 ) -> Result<(List<'a>, u64), FrameRule>
     requires { 8 * (word + 1) ≤ length from.now.bytes.now }
-    ensures { Finds (λ x. (elements_of x.0, x.1)) result (elements_from (all_of from.now) from.now.number word budget) }
+    ensures exact { Finds (λ x. (elements_of x.0, x.1)) result (elements_from (all_of from.now) from.now.number word budget) }
+    ensures count { IfOk result (λ x. x.0.count + x.1 ≤ budget) }
 {
     let Some(aim) = aim_at(from, word)? else {
         return Ok((no_elements(from), budget));
@@ -197,7 +205,9 @@ pub fn elements_behind<'a>(
     budget: &mut Budget,
 ) -> Result<List<'a>, FrameFault>
     requires { 8 * (word + 1) ≤ length from.now.bytes.now }
-    ensures { Gives elements_of result budget.old budget.new (elements_behind (all_of from.now) from.now.number word budget.old) }
+    ensures exact { Gives elements_of result budget.old budget.new (elements_behind (all_of from.now) from.now.number word budget.old) }
+    ensures left { budget.new ≤ budget.old }
+    ensures count { IfOk result (λ l. l.count + budget.new ≤ budget.old) }
 {
     match elements_from(from, word, budget.left()) {
         Ok((list, left)) => {
@@ -247,6 +257,7 @@ fn run_words(size: u32, count: u32) -> u32
 #[tactic(auto, unfolding(crate::specs::Target::list_target))]
 fn run_at<'a>(size: u32, from: &Segment<'a>, aim: &Aim) -> Result<(Run<'a>, u32), FrameRule>
     ensures exact { Finds (λ x. (run_of x.0, x.1)) result (list_target size (all_of from.now) (aim_of aim.now)) }
+    ensures words { IfOk result (λ x. x.1 ≡ list_words size x.0.count) }
     ensures inside { IfOk result (λ x. IsRun size x.0) }
 {
     let described = aim.described;
@@ -276,6 +287,7 @@ fn run_found<'a>(
     budget: u64,
 ) -> Result<(Run<'a>, u64), FrameRule>
     ensures exact { Finds (λ x. (run_of x.0, x.1)) result (list_found size (all_of from.now) budget (Some (aim_of aim.now))) }
+    ensures words { IfOk result (λ x. list_words size x.0.count + x.1 ≤ budget) }
     ensures inside { IfOk result (λ x. IsRun size x.0) }
 {
     let (run, words) = run_at(size, from, aim)?;
@@ -293,6 +305,7 @@ fn run_from<'a>(
 ) -> Result<(Run<'a>, u64), FrameRule>
     requires { 8 * (word + 1) ≤ length from.now.bytes.now }
     ensures exact { Finds (λ x. (run_of x.0, x.1)) result (list_from size (all_of from.now) from.now.number word budget) }
+    ensures words { IfOk result (λ x. list_words size x.0.count + x.1 ≤ budget) }
     ensures inside { IfOk result (λ x. IsRun size x.0) }
 {
     let Some(aim) = aim_at(from, word)? else {
@@ -311,6 +324,8 @@ pub fn run_behind<'a>(
 ) -> Result<Run<'a>, FrameFault>
     requires { 8 * (word + 1) ≤ length from.now.bytes.now }
     ensures exact { Gives run_of result budget.old budget.new (list_behind size (all_of from.now) from.now.number word budget.old) }
+    ensures left { budget.new ≤ budget.old }
+    ensures words { IfOk result (λ l. list_words size l.count + budget.new ≤ budget.old) }
     ensures inside { IfOk result (IsRun size) }
 {
     match run_from(size, from, word, budget.left()) {
@@ -329,7 +344,8 @@ pub fn run_behind<'a>(
 /// The bytes of a list of bytes.
 fn run_bytes<'a>(run: &Run<'a>) -> &'a [u8]
     requires { IsRun 2 run.now }
-    ensures { result.now ≡ bytes_of (run_of run.now) }
+    ensures exact { result.now ≡ bytes_of (run_of run.now) }
+    ensures count { length result.now ≡ run.now.count }
 {
     front(
         behind(run.segment.bytes, 8 * run.start as usize),
@@ -351,7 +367,8 @@ fn spelled(bytes: &[u8]) -> Option<&str>
 /// it isn't UTF-8.
 #[tactic(auto, unfolding(crate::specs::Objects::text_of))]
 fn text_of(bytes: &[u8]) -> Result<&str, FrameRule>
-    ensures { Finds (λ text. text.now) result (text_of bytes.now) }
+    ensures exact { Finds (λ text. text.now) result (text_of bytes.now) }
+    ensures short { IfOk result (λ text. length text.now ≤ length bytes.now) }
 {
     if bytes.is_empty() {
         return Err(FrameRule::F6);
@@ -370,7 +387,9 @@ fn text_of(bytes: &[u8]) -> Result<&str, FrameRule>
 #[tactic(auto, unfolding(crate::specs::Objects::text_found))]
 fn text_from<'a>(from: &Segment<'a>, word: u32, budget: u64) -> Result<(&'a str, u64), FrameRule>
     requires { 8 * (word + 1) ≤ length from.now.bytes.now }
-    ensures { Finds (λ x. (x.0.now, x.1)) result (text_from (all_of from.now) from.now.number word budget) }
+    ensures exact { Finds (λ x. (x.0.now, x.1)) result (text_from (all_of from.now) from.now.number word budget) }
+    ensures left { IfOk result (λ x. x.1 ≤ budget) }
+    ensures short { IfOk result (λ x. length x.0.now + 8 * x.1 ≤ 8 * budget) }
 {
     let Some(aim) = aim_at(from, word)? else {
         return Ok(("", budget));
@@ -388,7 +407,9 @@ pub fn text_behind<'a>(
     budget: &mut Budget,
 ) -> Result<&'a str, FrameFault>
     requires { 8 * (word + 1) ≤ length from.now.bytes.now }
-    ensures { Gives (λ text. text.now) result budget.old budget.new (text_behind (all_of from.now) from.now.number word budget.old) }
+    ensures exact { Gives (λ text. text.now) result budget.old budget.new (text_behind (all_of from.now) from.now.number word budget.old) }
+    ensures left { budget.new ≤ budget.old }
+    ensures short { IfOk result (λ text. length text.now + 8 * budget.new ≤ 8 * budget.old) }
 {
     match text_from(from, word, budget.left()) {
         Ok((text, left)) => {

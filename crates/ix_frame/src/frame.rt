@@ -1,6 +1,6 @@
 //! Frames, and what reading them may cost.
 
-ghost use Rattle.std.specs.Prelude.{◌≡◌, ◌≤◌, ◌^◌, length, IfOk, IfErr};
+ghost use Rattle.std.specs.Prelude.{◌≡◌, ◌+◌, ◌≤◌, ◌^◌, length, IfOk, IfErr};
 ghost use Rattle.ix_frame.specs.Segments.{IsFrame, segments};
 
 use crate::follow::struct_behind;
@@ -33,7 +33,8 @@ impl Budget {
 
     /// What one reading of a frame may cost: twice the words of its segments, plus 64.
     pub fn new(frame: &Frame<'_>) -> Budget
-        ensures { result ≡ whole_budget (segments_of frame.now) }
+        ensures exact { result ≡ whole_budget (segments_of frame.now) }
+        ensures bound { result ≤ 2 ^ 28 + 64 }
     {
         let count = LittleEndian::read_u32(frame.bytes) as u64 + 1;
         let table = 8 * (count / 2 + 1);
@@ -127,7 +128,8 @@ impl<'a> Frame<'a> {
     /// (also where segment 0 has no word) and F7, at word 0 of segment 0, and the budget is as before.
     #[tactic(auto, unfolding(crate::specs::Objects::root_of))]
     pub fn root(&self, budget: &mut Budget) -> Result<Obj<'a>, FrameFault>
-        ensures { Gives object_of result budget.old budget.new (root_of (segments_of self.now) budget.old) }
+        ensures exact { Gives object_of result budget.old budget.new (root_of (segments_of self.now) budget.old) }
+        ensures left { budget.new ≤ budget.old }
     {
         let Some(segment) = Segment::of(self, 0) else {
             return Err(in_file(FrameRule::F3));

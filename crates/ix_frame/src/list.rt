@@ -61,11 +61,12 @@ pub struct Numbers<'a> {
 
 impl<'a> Numbers<'a> {
     ghost use Rattle.std.specs.Prelude.{◌≡◌, ◌<◌, slice_index};
-    ghost use Rattle.ix_frame.specs.Views.{numbers_of};
+    ghost use Rattle.ix_frame.specs.Views.{numbers_of, number_elements};
 
     /// How many numbers there are.
     pub fn len(&self) -> u32
-        ensures { result ≡ length (numbers_of self.now) }
+        ensures exact { result ≡ length (numbers_of self.now) }
+        ensures count { result ≡ (number_elements self.now).count }
     {
         self.count
     }
@@ -90,7 +91,7 @@ pub struct Texts<'a> {
 }
 
 impl<'a> Texts<'a> {
-    ghost use Rattle.std.specs.Prelude.{◌≡◌, ◌<◌};
+    ghost use Rattle.std.specs.Prelude.{◌≡◌, ◌<◌, IfOk};
     ghost use Rattle.ix_frame.specs.Result.{Gives};
     ghost use Rattle.ix_frame.specs.Objects.{text_in};
     ghost use Rattle.ix_frame.specs.Views.{text_elements};
@@ -107,7 +108,9 @@ impl<'a> Texts<'a> {
     /// Else the first of F5, F4, F3, F7 and F6, at the text's own word of the list, and the budget is as before.
     pub fn at(&self, i: u32, budget: &mut Budget) -> Result<&'a str, FrameFault>
         requires { i < (text_elements self.now).count }
-        ensures { Gives (λ text. text.now) result budget.old budget.new (text_in (text_elements self.now) i budget.old) }
+        ensures exact { Gives (λ text. text.now) result budget.old budget.new (text_in (text_elements self.now) i budget.old) }
+        ensures left { budget.new ≤ budget.old }
+        ensures short { IfOk result (λ text. length text.now + 8 * budget.new ≤ 8 * budget.old) }
     {
         text_behind(&self.segment, self.start + i, budget)
     }

@@ -31,6 +31,7 @@ impl<'a> Obj<'a> {
     ghost use Rattle.std.specs.Prelude.{◌≡◌, IfOk};
     ghost use Rattle.ix_frame.specs.Result.{Gives};
     ghost use Rattle.ix_frame.specs.Objects.{u32_in, bool_in, tag_in, has_pointer, struct_at, elements_at, list_at, text_at};
+    ghost use Rattle.ix_frame.specs.Target.{list_words};
     ghost use Rattle.ix_frame.specs.Views.{object_of, elements_of, run_of, IsRun, number_elements, text_elements};
 
     /// The number in this data slot, 0 past the data section.
@@ -79,7 +80,8 @@ impl<'a> Obj<'a> {
     /// and F7, at the pointer's own word, and the budget is as before.
     #[tactic(auto, unfolding(crate::specs::Objects::struct_at))]
     pub fn obj(&self, slot: u32, budget: &mut Budget) -> Result<Obj<'a>, FrameFault>
-        ensures { Gives object_of result budget.old budget.new (struct_at (object_of self.now) slot budget.old) }
+        ensures exact { Gives object_of result budget.old budget.new (struct_at (object_of self.now) slot budget.old) }
+        ensures left { budget.new ≤ budget.old }
     {
         if slot < self.pointer_words as u32 {
             struct_behind(
@@ -97,7 +99,9 @@ impl<'a> Obj<'a> {
     /// the pointer's own word, and the budget is as before.
     #[tactic(auto, unfolding(crate::specs::Objects::text_at))]
     pub fn text(&self, slot: u32, budget: &mut Budget) -> Result<&'a str, FrameFault>
-        ensures { Gives (λ text. text.now) result budget.old budget.new (text_at (object_of self.now) slot budget.old) }
+        ensures exact { Gives (λ text. text.now) result budget.old budget.new (text_at (object_of self.now) slot budget.old) }
+        ensures left { budget.new ≤ budget.old }
+        ensures short { IfOk result (λ text. length text.now + 8 * budget.new ≤ 8 * budget.old) }
     {
         if slot < self.pointer_words as u32 {
             text_behind(
@@ -116,7 +120,9 @@ impl<'a> Obj<'a> {
     /// before.
     #[tactic(auto, unfolding(crate::specs::Objects::elements_at))]
     pub fn list(&self, slot: u32, budget: &mut Budget) -> Result<List<'a>, FrameFault>
-        ensures { Gives elements_of result budget.old budget.new (elements_at (object_of self.now) slot budget.old) }
+        ensures exact { Gives elements_of result budget.old budget.new (elements_at (object_of self.now) slot budget.old) }
+        ensures left { budget.new ≤ budget.old }
+        ensures count { IfOk result (λ l. (elements_of l).count + budget.new ≤ budget.old) }
     {
         if slot < self.pointer_words as u32 {
             elements_behind(
@@ -133,6 +139,8 @@ impl<'a> Obj<'a> {
     #[tactic(auto, unfolding(crate::specs::Objects::list_at))]
     fn run(&self, size: u32, slot: u32, budget: &mut Budget) -> Result<Run<'a>, FrameFault>
         ensures exact { Gives run_of result budget.old budget.new (list_at size (object_of self.now) slot budget.old) }
+        ensures left { budget.new ≤ budget.old }
+        ensures words { IfOk result (λ l. list_words size l.count + budget.new ≤ budget.old) }
         ensures inside { IfOk result (IsRun size) }
     {
         if slot < self.pointer_words as u32 {
@@ -151,7 +159,9 @@ impl<'a> Obj<'a> {
     /// Its words, rounded up, at least 1, are taken from the budget, and nothing for the default. Else the first of F5,
     /// F4, F3 and F7, at the pointer's own word, and the budget is as before.
     pub fn numbers(&self, slot: u32, budget: &mut Budget) -> Result<Numbers<'a>, FrameFault>
-        ensures { Gives number_elements result budget.old budget.new (list_at 4 (object_of self.now) slot budget.old) }
+        ensures exact { Gives number_elements result budget.old budget.new (list_at 4 (object_of self.now) slot budget.old) }
+        ensures left { budget.new ≤ budget.old }
+        ensures count { IfOk result (λ l. (number_elements l).count + 2 * budget.new ≤ 2 * budget.old) }
     {
         let run = self.run(4, slot, budget)?;
         Ok(Numbers {
@@ -165,7 +175,9 @@ impl<'a> Obj<'a> {
     /// each text, at least 1 in all, is taken from the budget, and nothing for the default. Else the first of F5, F4, F3
     /// and F7, at the pointer's own word, and the budget is as before.
     pub fn texts(&self, slot: u32, budget: &mut Budget) -> Result<Texts<'a>, FrameFault>
-        ensures { Gives text_elements result budget.old budget.new (list_at 6 (object_of self.now) slot budget.old) }
+        ensures exact { Gives text_elements result budget.old budget.new (list_at 6 (object_of self.now) slot budget.old) }
+        ensures left { budget.new ≤ budget.old }
+        ensures count { IfOk result (λ l. (text_elements l).count + budget.new ≤ budget.old) }
     {
         let run = self.run(6, slot, budget)?;
         Ok(Texts {

@@ -49,6 +49,7 @@ use Rattle.ix_message.specs.declared.slots.packed_cell.TheConstants as packed_ce
 use Rattle.ix_message.specs.declared.slots.packed_cluster.TheConstants as packed_cluster_slots
 use Rattle.ix_message.specs.declared.slots.packed.TheConstants as packed_slots
 use Rattle.ix_message.specs.declared.slots.route_branch.TheConstants as route_branch_slots
+use Rattle.ix_message.specs.declared.slots.property_map.TheConstants as property_map_slots
 use Rattle.ix_message.specs.Shape.{Field, Struct, Pointers, struct_of, no_more, text, texts, numbers, struct, struct_or_none, boxed, structs, branches, string_table, unread}
 use Rattle.ix_message.specs.Names.{same_text}
 use Rattle.ix_message.specs.Device.{bel_pin, site_pin, bel, site_pip, site_wire, site_type, site_type_in_tile_type, pip, wire_constant_sources, tile_type, site, tile, wire, node, site_type_bel_entry, cell_bel_pin_entry, common_cell_bel_pin_maps, cell_bel_mapping, package_pin, package_of_pins, site_constant_source, node_constant_source, constant_cells, lut_cell, lut_bel, lut_element, site_type_lut_elements, lut_definitions, device}
@@ -94,7 +95,9 @@ pointer_slot (struct_of kind fields ps) called slot = name_among (names_of ps) c
 abbrev pub sections : Struct → ℕ → ℕ → Bool
 sections (struct_of kind fields ps) data_words pointers = (data_words == (length fields + 1) / 2) && pointers == length (names_of ps)
 
--- each constant is the slot that the tables give its field
+-- Each constant is the slot that the tables give its field. A branch and a property map have no table of their own: a
+-- branch has the fields of a segment and one pointer, to the branches below it; a property map has one pointer, to its
+-- entries.
 abbrev pub slots_agree : Bool
 slots_agree = list_all (λ agrees. agrees) (
     data_slot bel_pin "name" bel_pin_slots.NAME ∷
@@ -305,4 +308,10 @@ slots_agree = list_all (λ agrees. agrees) (
     slot_among segment "first" route_branch_slots.FIRST ∷
     slot_among segment "second" route_branch_slots.SECOND ∷
     slot_among segment "third" route_branch_slots.THIRD ∷
-    slot_among segment "forward" route_branch_slots.FORWARD ∷ [])
+    slot_among segment "forward" route_branch_slots.FORWARD ∷
+    (route_branch_slots.BRANCHES == 0) ∷
+    (route_branch_slots.DATA_WORDS == (length segment + 1) / 2) ∷
+    (route_branch_slots.POINTERS == 1) ∷
+    (property_map_slots.ENTRIES == 0) ∷
+    (property_map_slots.DATA_WORDS == 0) ∷
+    (property_map_slots.POINTERS == 1) ∷ [])

@@ -1,6 +1,6 @@
 -- Files that were worked out by hand or written by another program, to try the definitions on.
 use Prim.Native.String.{String}
-use Rattle.std.specs.Prelude.{Option, ℕ, List, [], ◌∷◌, codes, Some}
+use Rattle.std.specs.Prelude.{Option, ℕ, List, [], ◌∷◌, codes, Some, None}
 use Rattle.std.specs.List.{flat_map}
 use Rattle.byteorder.specs.Endian.{little_bytes}
 use Rattle.ix_message.specs.Shape.{Value, ends, branch}
@@ -748,3 +748,75 @@ with_branches row below = ([], ([], ([], ((((0 ∷ 0 ∷ []), (branch row (branc
 -- a field of the second struct of its name
 abbrev pub second : String → String → Option Item
 second kind field = Some (record { kind = codes kind; field = codes field; index = 1 })
+
+-- What the cases of a device change: the row of a BEL, of a site PIP, of a tile, of its site and of a package pin, the
+-- pins of a site wire, the row of a PIP, and the wires of a constant source and of a node.
+pub record Rows : Type 0 where
+  pub bel : List ℕ
+  pub site_pip : List ℕ
+  pub pins : List ℕ
+  pub pip : List ℕ
+  pub sources : List ℕ
+  pub tile : List ℕ
+  pub site : List ℕ
+  pub node : List ℕ
+  pub package_pin : List ℕ
+
+-- rows of which each fits
+abbrev pub fitting : Rows
+fitting = record {
+  bel = 0 ∷ 2 ∷ 1 ∷ 2 ∷ 1 ∷ [];
+  site_pip = 2 ∷ 0 ∷ [];
+  pins = 2 ∷ 0 ∷ [];
+  pip = 0 ∷ 1 ∷ 0 ∷ 0 ∷ [];
+  sources = 1 ∷ [];
+  tile = 0 ∷ 1 ∷ 9 ∷ 9 ∷ [];
+  site = 1 ∷ 0 ∷ [];
+  node = 0 ∷ [];
+  package_pin = 0 ∷ 1 ∷ 1 ∷ [];
+}
+
+-- A device of two strings with two site types (0 with one BEL pin, 1 with three, and with the BEL, the site PIP and the
+-- site wire), two tile types (0 with no site types and three wires, 1 with one site type and two wires, and with the PIP
+-- and the constant source), a tile with a site, a wire, a node and a package with a pin.
+abbrev pub with_rows : Rows → Value ℕ device
+with_rows rows = (
+  [],
+  (
+    [],
+    (
+      (((0 ∷ []), ((((0 ∷ 0 ∷ 0 ∷ []), tt) ∷ []), ([], ([], ([], ([], tt)))))) ∷
+          ((1 ∷ []), ((((0 ∷ 0 ∷ 0 ∷ []), tt) ∷ ((0 ∷ 1 ∷ 0 ∷ []), tt) ∷ ((0 ∷ 2 ∷ 0 ∷ []), tt) ∷ []), ((((0 ∷ 0 ∷ 2 ∷ []), tt) ∷ []), (((rows.bel, tt) ∷ []), (((rows.site_pip, tt) ∷ []), ((((1 ∷ []), (rows.pins, tt)) ∷ []), tt)))))) ∷ []),
+      (
+        (((0 ∷ []), ([], ((0 ∷ 1 ∷ 1 ∷ []), ([], ([], tt))))) ∷
+            ((0 ∷ []), ((((1 ∷ []), ([], tt)) ∷ []), ((0 ∷ 1 ∷ []), (((rows.pip, tt) ∷ []), ((((2 ∷ []), (rows.sources, tt)) ∷ []), tt))))) ∷ []),
+        (
+          ((rows.tile, (((rows.site, tt) ∷ []), tt)) ∷ []),
+          (
+            (((0 ∷ 1 ∷ []), tt) ∷ []),
+            (
+              (([], (rows.node, tt)) ∷ []),
+              (
+                [],
+                (
+                  (((0 ∷ []), (((rows.package_pin, tt) ∷ []), tt)) ∷ []),
+                  (
+                    None,
+                    (
+                      ([], ([], ([], tt))),
+                      tt,
+                    ),
+                  ),
+                ),
+              ),
+            ),
+          ),
+        ),
+      ),
+    ),
+  ),
+)
+
+-- a field of the first struct of its name
+abbrev pub first : String → String → Option Item
+first kind field = Some (record { kind = codes kind; field = codes field; index = 0 })

@@ -701,7 +701,7 @@ pub mod route_branch {
     /// The pointer slot of `branches`.
     pub const BRANCHES: u32 = 0;
     /// The words of the data section.
-    pub const DATA_WORDS: u32 = 3;
+    pub const DATA_WORDS: u32 = 3; // for five fields
     /// The pointers of the pointer section.
     pub const POINTERS: u32 = 1;
 }

@@ -75,7 +75,7 @@ pub enum NetType {
 pub struct Segment {
     /// What kind of piece it is, which says what the three names are.
     pub kind: BranchKind,
-    /// Whether a PIP is used from `wire0` to `wire1`. At another kind it isn't looked at.
+    /// Whether a PIP is used from `wire0` to `wire1`. At another kind it is kept, and no rule asks it.
     pub forward: bool,
     /// The name of the site, or at a PIP of the tile.
     pub first: NameId,

@@ -4,5 +4,5 @@ use Rattle.ix_frame.specs.Views.{all_of}
 use Rattle.ix_frame.proofs.Parts.{length-numbers_of_four}
 use Rattle.ix_frame.proofs.list.Numbers.len.Goals as goal
 
-pub returns : goal.returns
-returns c = let l = c.args.self.now in sym (length-numbers_of_four l.count (drop (8 * l.start) (segment_at (all_of l.segment) l.segment.number)))
+pub returns-clause-exact : goal.returns-clause-exact
+returns-clause-exact c = let l = c.args.self.now in sym (length-numbers_of_four l.count (drop (8 * l.start) (segment_at (all_of l.segment) l.segment.number)))

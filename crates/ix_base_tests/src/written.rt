@@ -1,0 +1,290 @@
+//! Messages that are built, and lines that are printed.
+
+use crate::hex::bytes_of;
+use ix_capw::{At, Builder};
+use ix_rec::{File, Place, Rule, Word};
+use ix_report::{OUT_OF_MEMORY_LINE, Report, USAGE_LINE, line};
+use std::alloc::Global;
+use std::process::Abort;
+use std::test::Fail;
+
+/// Roots by the words of their two sections, and the messages that are nothing else.
+const ROOTS: [(u16, u16, &str); 4] = [
+    (
+        0,
+        6,
+        "0000000007000000 0000000000000600 0000000000000000 0000000000000000 0000000000000000 0000000000000000 0000000000000000 0000000000000000",
+    ),
+    (1, 0, "0000000002000000 0000000001000000 0000000000000000"),
+    (0, 1, "0000000002000000 0000000000000100 0000000000000000"),
+    (
+        2,
+        3,
+        "0000000006000000 0000000002000300 0000000000000000 0000000000000000 0000000000000000 0000000000000000 0000000000000000",
+    ),
+];
+
+/// The rules, by the words that are printed for them.
+const RULES: [(Rule, &str); 45] = [
+    (Rule::F1, "F1"),
+    (Rule::F2, "F2"),
+    (Rule::F3, "F3"),
+    (Rule::F4, "F4"),
+    (Rule::F5, "F5"),
+    (Rule::F6, "F6"),
+    (Rule::F7, "F7"),
+    (Rule::F8, "F8"),
+    (Rule::F9, "F9"),
+    (Rule::I1, "I1"),
+    (Rule::M1, "M1"),
+    (Rule::M2, "M2"),
+    (Rule::M3, "M3"),
+    (Rule::M4, "M4"),
+    (Rule::M5, "M5"),
+    (Rule::M6, "M6"),
+    (Rule::M7, "M7"),
+    (Rule::N1, "N1"),
+    (Rule::N2, "N2"),
+    (Rule::N3, "N3"),
+    (Rule::N4, "N4"),
+    (Rule::N5, "N5"),
+    (Rule::N6, "N6"),
+    (Rule::N7, "N7"),
+    (Rule::N8, "N8"),
+    (Rule::N9, "N9"),
+    (Rule::N10, "N10"),
+    (Rule::P1, "P1"),
+    (Rule::P2, "P2"),
+    (Rule::P3, "P3"),
+    (Rule::P4, "P4"),
+    (Rule::P5, "P5"),
+    (Rule::L1, "L1"),
+    (Rule::L2, "L2"),
+    (Rule::L3, "L3"),
+    (Rule::L4, "L4"),
+    (Rule::L5, "L5"),
+    (Rule::L6, "L6"),
+    (Rule::L7, "L7"),
+    (Rule::L8, "L8"),
+    (Rule::L9, "L9"),
+    (Rule::L10, "L10"),
+    (Rule::E1, "E1"),
+    (Rule::E2, "E2"),
+    (Rule::E3, "E3"),
+];
+
+/// The files, by the words that are printed for them.
+const FILES: [(File, &str); 4] = [
+    (File::Device, "device"),
+    (File::Design, "design"),
+    (File::Packed, "packed"),
+    (File::Phys, "phys"),
+];
+
+/// Builds a message of a root alone.
+fn check_root(
+    rt: &impl Abort,
+    alloc: Global,
+    words: u16,
+    pointers: u16,
+    hex: &str,
+) -> Result<(), Fail> {
+    let mut builder = Builder::new(alloc);
+    let At {
+        start,
+        words: data,
+        pointers: refs,
+    } = builder.root(words, pointers)?;
+    assert_eq!(rt; (start, data, refs), (1, words, pointers));
+    let file = builder.finish()?;
+    let wanted = bytes_of(alloc, hex)?;
+    assert_eq!(rt; file.as_slice(), wanted.as_slice());
+    Ok(())
+}
+
+/// Whether the line of a report is this text and a line feed.
+fn check_line(rt: &impl Abort, alloc: Global, report: &Report, text: &str) -> Result<(), Fail> {
+    let mut wanted = String::from_str(alloc, text)?;
+    wanted.push_str("\n")?;
+    let printed = line(alloc, report)?;
+    assert_eq!(rt; printed.as_slice(), wanted.as_bytes(), "{text}");
+    Ok(())
+}
+
+/// The line of a file that breaks a rule at a place.
+fn check_place(rt: &impl Abort, alloc: Global, place: Place, text: &str) -> Result<(), Fail> {
+    let report = Report::Bad {
+        file: File::Phys,
+        rule: Rule::L9,
+        place,
+    };
+    check_line(rt, alloc, &report, text)
+}
+
+fn word(alloc: Global, text: &str) -> Result<Word, Fail> {
+    Ok(Word::new(alloc, text)?)
+}
+
+/// The lines of places without names.
+fn check_numbered_places(rt: &impl Abort, alloc: Global) -> Result<(), Fail> {
+    check_place(rt, alloc, Place::File, "phys: L9 at file")?;
+    let first = Place::At {
+        segment: 0,
+        word: 0,
+    };
+    check_place(rt, alloc, first, "phys: L9 at word 0:0")?;
+    let last = Place::At {
+        segment: 511,
+        word: 134_217_727,
+    };
+    check_place(rt, alloc, last, "phys: L9 at word 511:134217727")?;
+    let item = Place::Item {
+        kind: word(alloc, "BELPin")?,
+        field: word(alloc, "dir")?,
+        index: 10,
+    };
+    check_place(rt, alloc, item, "phys: L9 at BELPin.dir 10")
+}
+
+/// The lines of places with names.
+fn check_named_places(rt: &impl Abort, alloc: Global) -> Result<(), Fail> {
+    let named = Place::Named(word(alloc, "a/b c")?);
+    check_place(rt, alloc, named, "phys: L9 at a/b c")?;
+    let empty = Place::Named(word(alloc, "")?);
+    check_place(rt, alloc, empty, "phys: L9 at ")?;
+    let cell = Place::Cell(word(alloc, "c0")?);
+    check_place(rt, alloc, cell, "phys: L9 at cell c0")?;
+    let pin = Place::Pin(word(alloc, "c0")?, word(alloc, "A1")?);
+    check_place(rt, alloc, pin, "phys: L9 at pin c0/A1")?;
+    let segment = Place::Segment {
+        net: word(alloc, "n0")?,
+        index: 3,
+    };
+    check_place(rt, alloc, segment, "phys: L9 at net n0 #3")?;
+    let element = Place::Element(word(alloc, "S1")?, 2);
+    check_place(rt, alloc, element, "phys: L9 at element S1 2")
+}
+
+/// The lines of sites and keys.
+fn check_other_places(rt: &impl Abort, alloc: Global) -> Result<(), Fail> {
+    let site = Place::Site(word(alloc, "S1")?);
+    check_place(rt, alloc, site, "phys: L9 at site S1")?;
+    let key = Place::Key(word(alloc, "TABLE/S1/0")?);
+    check_place(rt, alloc, key, "phys: L9 at key TABLE/S1/0")
+}
+
+/// The lines of faults of the shelf.
+fn check_faults(rt: &impl Abort, alloc: Global) -> Result<(), Fail> {
+    let read = Report::ReadFault {
+        file: word(alloc, "d")?,
+    };
+    check_line(rt, alloc, &read, "read fault: d")?;
+    let write = Report::WriteFault {
+        file: word(alloc, "a b")?,
+    };
+    check_line(rt, alloc, &write, "write fault: a b")
+}
+
+/// The lines that name nothing, which are there without memory too.
+fn check_fixed(
+    rt: &impl Abort,
+    alloc: Global,
+    report: &Report,
+    fixed: &[u8],
+    text: &str,
+) -> Result<(), Fail> {
+    check_line(rt, alloc, report, text)?;
+    let printed = line(alloc, report)?;
+    assert!(rt; printed.as_slice() == fixed, "{text}");
+    Ok(())
+}
+
+fn check_roots(rt: &impl Abort, alloc: Global, roots: &[(u16, u16, &str)]) -> Result<(), Fail> {
+    for (words, pointers, hex) in roots {
+        check_root(rt, alloc, *words, *pointers, hex)?;
+    }
+    Ok(())
+}
+
+/// The lines of two jobs that are done.
+fn check_done(rt: &impl Abort, alloc: Global) -> Result<(), Fail> {
+    let none = Report::Implemented {
+        cells: 0,
+        clusters: 0,
+        nets: 0,
+        pips: 0,
+        trial: 1,
+        rounds: 1,
+    };
+    let none_line = "done: 0 cells, 0 clusters, 0 nets, 0 pips, trial 1, rounds 1";
+    check_line(rt, alloc, &none, none_line)?;
+    let some = Report::Implemented {
+        cells: 4_294_967_295,
+        clusters: 10,
+        nets: 101,
+        pips: 18_446_744_073_709_551_615,
+        trial: 4,
+        rounds: 50,
+    };
+    let some_line =
+        "done: 4294967295 cells, 10 clusters, 101 nets, 18446744073709551615 pips, trial 4, rounds 50";
+    check_line(rt, alloc, &some, some_line)
+}
+
+/// The line of a file that breaks a rule.
+fn check_rule(
+    rt: &impl Abort,
+    alloc: Global,
+    file: File,
+    rule: Rule,
+    text: &str,
+) -> Result<(), Fail> {
+    let report = Report::Bad {
+        file,
+        rule,
+        place: Place::File,
+    };
+    check_line(rt, alloc, &report, text)
+}
+
+fn check_rules(rt: &impl Abort, alloc: Global, rules: &[(Rule, &str)]) -> Result<(), Fail> {
+    for (rule, name) in rules {
+        let text = format!(in alloc; "device: {name} at file")?;
+        check_rule(rt, alloc, File::Device, *rule, text.as_str())?;
+    }
+    Ok(())
+}
+
+fn check_files(rt: &impl Abort, alloc: Global, files: &[(File, &str)]) -> Result<(), Fail> {
+    for (file, name) in files {
+        let bad = format!(in alloc; "{name}: I1 at file")?;
+        check_rule(rt, alloc, *file, Rule::I1, bad.as_str())?;
+        let unbuilt = format!(in alloc; "not built yet: {name}")?;
+        check_line(rt, alloc, &Report::NotBuilt(*file), unbuilt.as_str())?;
+    }
+    Ok(())
+}
+
+#[test]
+fn messages(rt: HostRuntime) -> Result<(), Fail> {
+    check_roots(&rt, rt.alloc(), &ROOTS)
+}
+
+#[test]
+fn lines(rt: HostRuntime) -> Result<(), Fail> {
+    let alloc = rt.alloc();
+    check_numbered_places(&rt, alloc)?;
+    check_named_places(&rt, alloc)?;
+    check_other_places(&rt, alloc)?;
+    check_faults(&rt, alloc)?;
+    check_fixed(&rt, alloc, &Report::Usage, USAGE_LINE, "bad words")?;
+    let memory = Report::OutOfMemory;
+    check_fixed(&rt, alloc, &memory, OUT_OF_MEMORY_LINE, "out of memory")?;
+    check_done(&rt, alloc)
+}
+
+#[test]
+fn words_of_rules(rt: HostRuntime) -> Result<(), Fail> {
+    check_rules(&rt, rt.alloc(), &RULES)?;
+    check_files(&rt, rt.alloc(), &FILES)
+}

@@ -1,0 +1,2 @@
+//! The rules of a valid device.
+#![tactic(auto)]

@@ -1,0 +1,2 @@
+//! Tables of keys.
+#![tactic(auto)]

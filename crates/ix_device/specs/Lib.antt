@@ -1,0 +1,4 @@
+pub mod Lookups
+pub mod Elements
+pub mod Admission
+pub mod Sources

@@ -1,0 +1,69 @@
+-- What a device's record has under a name or a number. A name's first bearer counts; in a valid device there is one.
+use Rattle.std.specs.Prelude.{ℕ, ◌+◌, List, [], ◌∷◌, ◌++◌, map, slice_get, Option, Some, None, option_map, nat_eq, option_and_then}
+use Rattle.std.specs.List.{list_any, position}
+use Rattle.ix_rec.specs.declared.device.DeviceRec.{DeviceRec}
+use Rattle.ix_rec.specs.declared.device.SiteType.{SiteType}
+use Rattle.ix_rec.specs.declared.device.Bel.{Bel}
+use Rattle.ix_rec.specs.declared.device.Tile.{Tile}
+use Rattle.ix_rec.specs.declared.device.Site.{Site}
+use Rattle.ix_rec.specs.declared.device.TileType.{TileType}
+use Rattle.ix_device_rules.specs.Rules.{is_pin_of}
+
+abbrev pub tile_named : DeviceRec → ℕ → Option ℕ
+tile_named rec name = position (λ t. nat_eq t.name name) rec.tile_list
+
+abbrev pub site_type_number : DeviceRec → ℕ → Option ℕ
+site_type_number rec name = position (λ t. nat_eq t.name name) rec.site_type_list
+
+-- Sites are numbered by tile, then by place in the tile: each with its tile's number.
+unfoldable pub sites_from : ℕ → List Tile → List (ℕ × Site)
+sites_from tile [] = []
+sites_from tile (t ∷ ts) = map (λ s. (tile, s)) t.sites ++ sites_from (tile + 1) ts
+
+abbrev pub sites_of : DeviceRec → List (ℕ × Site)
+sites_of rec = sites_from 0 rec.tile_list
+
+abbrev pub site_named : DeviceRec → ℕ → Option ℕ
+site_named rec name = position (λ s. nat_eq s.1.name name) (sites_of rec)
+
+abbrev pub name_of_site : DeviceRec → ℕ → Option ℕ
+name_of_site rec site = option_map (λ s. s.1.name) (slice_get (sites_of rec) site)
+
+abbrev pub tile_of_site : DeviceRec → ℕ → Option ℕ
+tile_of_site rec site = option_map (λ s. s.0) (slice_get (sites_of rec) site)
+
+-- the tile type of a tile
+abbrev pub type_of_tile : DeviceRec → ℕ → Option TileType
+type_of_tile rec tile = option_and_then (λ t. slice_get rec.tile_type_list t.ty) (slice_get rec.tile_list tile)
+
+-- A site's type is the one that its tile's type has at the site's own index.
+abbrev pub type_of_site : DeviceRec → ℕ → Option ℕ
+type_of_site rec site =
+    option_and_then (λ s. option_and_then (λ ty. option_map (λ u. u.primary_type) (slice_get ty.site_types s.1.ty)) (type_of_tile rec s.0)) (slice_get (sites_of rec) site)
+
+abbrev pub row_and_column : DeviceRec → ℕ → Option (ℕ × ℕ)
+row_and_column rec tile = option_map (λ t. (t.row, t.col)) (slice_get rec.tile_list tile)
+
+-- Within a site type, numbers are places in its own lists.
+
+-- what is told of the site type of this number
+abbrev pub in_type : {A : Type 0} → (SiteType → Option A) → DeviceRec → ℕ → Option A
+in_type tell rec t = option_and_then tell (slice_get rec.site_type_list t)
+
+abbrev pub bel_in : ℕ → SiteType → Option ℕ
+bel_in name t = position (λ b. nat_eq b.name name) t.bels
+
+-- the pin of this name of the BEL of this name
+abbrev pub pin_of_bel : ℕ → ℕ → SiteType → Option ℕ
+pin_of_bel bel name t = position (is_pin_of bel name) t.bel_pins
+
+-- the pin of this name of the BEL of this number
+abbrev pub bel_pin_in : ℕ → ℕ → SiteType → Option ℕ
+bel_pin_in bel name t = option_and_then (λ b. pin_of_bel b.name name t) (slice_get t.bels bel)
+
+abbrev pub site_pin_in : ℕ → SiteType → Option ℕ
+site_pin_in name t = position (λ p. nat_eq p.name name) t.pins
+
+-- the site wire of a BEL pin
+abbrev pub wire_in : ℕ → SiteType → Option ℕ
+wire_in pin t = position (λ w. list_any (nat_eq pin) w.pins) t.site_wires

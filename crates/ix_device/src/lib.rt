@@ -1,0 +1,2 @@
+//! A device that keeps all its rules, and what it tells by name and by number.
+#![tactic(auto)]

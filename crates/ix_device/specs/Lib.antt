@@ -2,3 +2,4 @@ pub mod Lookups
 pub mod Elements
 pub mod Admission
 pub mod Sources
+pub mod Tables

@@ -1,2 +1,4 @@
 //! A device that keeps all its rules, and what it tells by name and by number.
 #![tactic(auto)]
+
+mod sites;

@@ -1,0 +1,63 @@
+-- The table of sites, site by site.
+use Rattle.std.proofs.Common.{◌≡◌, ◌<◌, refl, ap, sym, subst, ◌∙◌, ℕ, ◌+◌, length, None, option_and_then, arith, List, [], ◌∷◌, ◌++◌, map, take, slice_get, Option, Some, option_map, append_assoc}
+use Rattle.ix_rec.specs.declared.device.TileType.{TileType}
+use Rattle.ix_rec.specs.declared.device.Site.{Site}
+use Rattle.ix_rec.specs.declared.device.SiteTypeInTileType.{SiteTypeInTileType}
+use Rattle.ix_device.specs.declared.sites.SiteEntry.{SiteEntry}
+use Rattle.ix_device.specs.Tables.{entry_told, told_in, told_of}
+use Rattle.std.proofs.lemmas.List.{map_push, map-append, append-nil}
+use Rattle.std.proofs.lemmas.Option.{slice_get_within}
+use Rattle.std.specs.List.{AllByRecursion}
+use Rattle.ix_rec.specs.declared.device.DeviceRec.{DeviceRec}
+use Rattle.ix_rec.specs.declared.device.Tile.{Tile}
+use Rattle.ix_device_rules.specs.Ranges.{SitesFit}
+use Rattle.ix_device.specs.Lookups.{sites_from, type_of_tile}
+use Rattle.ix_device.proofs.Walks.{map_take_next, take_next, length_take}
+
+-- one more site of a tile was told
+pub one_more_site : (tile : ℕ) (ty : TileType) (sites : List Site) (i : ℕ) (s : Site) (u : SiteTypeInTileType) (entries : List SiteEntry) (before : List (Option (ℕ × ℕ × ℕ)))
+    → slice_get sites i ≡ Some s → slice_get ty.site_types s.ty ≡ Some u → map entry_told entries ≡ before ++ map (told_in tile ty) (take i sites)
+    → map entry_told (entries ++ record { name = s.name; tile = tile; ty = u.primary_type } ∷ []) ≡ before ++ map (told_in tile ty) (take (i + 1) sites)
+one_more_site tile ty sites i s u entries before at_i at_ty h =
+    map_push entry_told entries e
+    ∙ ap (λ l. l ++ entry_told e ∷ []) h
+    ∙ append_assoc before (map (told_in tile ty) (take i sites)) (entry_told e ∷ [])
+    ∙ ap (λ x. before ++ (map (told_in tile ty) (take i sites) ++ x ∷ [])) (sym (ap (option_map (λ v. (s.name, tile, v.primary_type))) at_ty))
+    ∙ ap (λ l. before ++ l) (sym (map_take_next (told_in tile ty) sites i s at_i))
+  where
+    e : SiteEntry
+    e = record { name = s.name; tile = tile; ty = u.primary_type }
+
+-- A tile's sites are of types of its own type, so that its own type is there.
+pub type_within : (types : List TileType) (t : ℕ) (sites : List Site) → SitesFit (slice_get types t) sites → t < length types
+type_within types t sites fits = by (slice_get types t) refl fits
+  where
+    by : (o : Option TileType) → slice_get types t ≡ o → SitesFit o sites → t < length types
+    by None e h = absurd h
+    by (Some ty) e h = slice_get_within types t ty e
+
+pub sites_fit : (types : List TileType) (t : ℕ) (sites : List Site) (ty : TileType) → SitesFit (slice_get types t) sites → slice_get types t ≡ Some ty
+    → AllByRecursion (λ s. s.ty < length ty.site_types) sites
+sites_fit types t sites ty fits e = subst (λ o. SitesFit o sites) e fits
+
+-- the sites of tiles from this number on, with one tile more
+pub sites_push : (first : ℕ) (tiles : List Tile) (t : Tile) → sites_from first (tiles ++ t ∷ []) ≡ sites_from first tiles ++ map (λ s. (first + length tiles, s)) t.sites
+unfolding sites_from
+sites_push first [] t = append-nil (map (λ s. (first, s)) t.sites) ∙ ap (λ n. map (λ s. (n, s)) t.sites) (omega arith)
+sites_push first (u ∷ us) t =
+    ap (λ l. map (λ s. (first, s)) u.sites ++ l) (sites_push (first + 1) us t ∙ ap (λ n. sites_from (first + 1) us ++ map (λ s. (n, s)) t.sites) (omega arith))
+    ∙ sym (append_assoc (map (λ s. (first, s)) u.sites) (sites_from (first + 1) us) (map (λ s. (first + length (u ∷ us), s)) t.sites))
+
+told_sites : (rec : DeviceRec) (tile : ℕ) (ty : TileType) (sites : List Site) → type_of_tile rec tile ≡ Some ty → map (told_of rec) (map (λ s. (tile, s)) sites) ≡ map (told_in tile ty) sites
+told_sites rec tile ty [] e = refl
+told_sites rec tile ty (s ∷ ss) e = ap (λ x. x ∷ map (told_of rec) (map (λ s. (tile, s)) ss)) (ap (option_and_then (λ u. told_in tile u s)) e) ∙ ap (λ l. told_in tile ty s ∷ l) (told_sites rec tile ty ss e)
+
+-- the sites of one more tile were told
+pub one_more_tile : (rec : DeviceRec) (i : ℕ) (t : Tile) (ty : TileType) (told : List (Option (ℕ × ℕ × ℕ)))
+    → slice_get rec.tile_list i ≡ Some t → slice_get rec.tile_type_list t.ty ≡ Some ty → told ≡ map (told_of rec) (sites_from 0 (take i rec.tile_list))
+    → told ++ map (told_in i ty) t.sites ≡ map (told_of rec) (sites_from 0 (take (i + 1) rec.tile_list))
+one_more_tile rec i t ty told at_i at_ty h =
+    ap (λ l. l ++ map (told_in i ty) t.sites) h
+    ∙ ap (λ l. map (told_of rec) (sites_from 0 (take i rec.tile_list)) ++ l) (sym (told_sites rec i ty t.sites (ap (option_and_then (λ u. slice_get rec.tile_type_list u.ty)) at_i ∙ at_ty)))
+    ∙ sym (map-append (told_of rec) (sites_from 0 (take i rec.tile_list)) (map (λ s. (i, s)) t.sites))
+    ∙ ap (map (told_of rec)) (sym (ap (sites_from 0) (take_next rec.tile_list i t at_i) ∙ sites_push 0 (take i rec.tile_list) t ∙ ap (λ n. sites_from 0 (take i rec.tile_list) ++ map (λ s. (n, s)) t.sites) (let len = length_take rec.tile_list i t at_i in omega arith)))

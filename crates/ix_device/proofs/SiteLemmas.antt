@@ -1,17 +1,18 @@
 -- The table of sites, site by site.
-use Rattle.std.proofs.Common.{◌≡◌, ◌<◌, refl, ap, sym, subst, ◌∙◌, ℕ, ◌+◌, length, None, option_and_then, arith, List, [], ◌∷◌, ◌++◌, map, take, slice_get, Option, Some, option_map, append_assoc}
+use Rattle.std.proofs.Common.{◌≡◌, ◌<◌, refl, ap, sym, subst, ◌∙◌, ℕ, ◌+◌, length, None, option_and_then, arith, List, [], ◌∷◌, ◌++◌, map, take, drop, Bool, cond, nat_eq, slice_get, Option, Some, option_map, append_assoc}
 use Rattle.ix_rec.specs.declared.device.TileType.{TileType}
 use Rattle.ix_rec.specs.declared.device.Site.{Site}
 use Rattle.ix_rec.specs.declared.device.SiteTypeInTileType.{SiteTypeInTileType}
 use Rattle.ix_device.specs.declared.sites.SiteEntry.{SiteEntry}
-use Rattle.ix_device.specs.Tables.{entry_told, told_in, told_of}
+use Rattle.ix_device.specs.Tables.{entry_told, told_in, told_of, AreSites}
 use Rattle.std.proofs.lemmas.List.{map_push, map-append, append-nil}
-use Rattle.std.proofs.lemmas.Option.{slice_get_within}
-use Rattle.std.specs.List.{AllByRecursion}
+use Rattle.std.proofs.lemmas.Option.{slice_get_within, none-some, same_Some, slice_get-map}
+use Rattle.std.specs.List.{AllByRecursion, position}
 use Rattle.ix_rec.specs.declared.device.DeviceRec.{DeviceRec}
 use Rattle.ix_rec.specs.declared.device.Tile.{Tile}
 use Rattle.ix_device_rules.specs.Ranges.{SitesFit}
-use Rattle.ix_device.specs.Lookups.{sites_from, type_of_tile}
+use Rattle.ix_device.specs.Lookups.{sites_from, sites_of, site_named, type_of_tile}
+use Rattle.ix_device.proofs.FirstPlaces.{position-cons}
 use Rattle.ix_device.proofs.Walks.{map_take_next, take_next, length_take}
 
 -- one more site of a tile was told
@@ -61,3 +62,42 @@ one_more_tile rec i t ty told at_i at_ty h =
     ∙ ap (λ l. map (told_of rec) (sites_from 0 (take i rec.tile_list)) ++ l) (sym (told_sites rec i ty t.sites (ap (option_and_then (λ u. slice_get rec.tile_type_list u.ty)) at_i ∙ at_ty)))
     ∙ sym (map-append (told_of rec) (sites_from 0 (take i rec.tile_list)) (map (λ s. (i, s)) t.sites))
     ∙ ap (map (told_of rec)) (sym (ap (sites_from 0) (take_next rec.tile_list i t at_i) ∙ sites_push 0 (take i rec.tile_list) t ∙ ap (λ n. sites_from 0 (take i rec.tile_list) ++ map (λ s. (n, s)) t.sites) (let len = length_take rec.tile_list i t at_i in omega arith)))
+
+-- The names in the table of sites are those of the sites.
+told_name : (rec : DeviceRec) (s : ℕ × Site) (x : ℕ × ℕ × ℕ) → told_of rec s ≡ Some x → x.0 ≡ s.1.name
+told_name rec s x = by (type_of_tile rec s.0)
+  where
+    named : (o : Option SiteTypeInTileType) → option_map (λ u. (s.1.name, s.0, u.primary_type)) o ≡ Some x → x.0 ≡ s.1.name
+    named None h = absurd (none-some x h)
+    named (Some u) h = sym (ap (λ p. p.0) (same_Some (s.1.name, s.0, u.primary_type) x h))
+
+    by : (o : Option TileType) → option_and_then (λ ty. told_in s.0 ty s.1) o ≡ Some x → x.0 ≡ s.1.name
+    by None h = absurd (none-some x h)
+    by (Some ty) h = named (slice_get ty.site_types s.1.ty) h
+
+pub same_names : (rec : DeviceRec) (entries : List SiteEntry) (sites : List (ℕ × Site)) → map entry_told entries ≡ map (told_of rec) sites → map (λ e. e.name) entries ≡ map (λ s. s.1.name) sites
+same_names rec [] [] h = refl
+same_names rec [] (s ∷ ss) h = absurd (none-some (told_of rec s) (ap (λ l. slice_get l 0) h))
+same_names rec (e ∷ es) [] h = absurd (none-some (entry_told e) (sym (ap (λ l. slice_get l 0) h)))
+same_names rec (e ∷ es) (s ∷ ss) h =
+    ap (λ n. n ∷ map (λ e. e.name) es) (told_name rec s (e.name, e.tile, e.ty) (sym (same_Some (entry_told e) (told_of rec s) (ap (λ l. slice_get l 0) h))))
+    ∙ ap (λ l. s.1.name ∷ l) (same_names rec es ss (ap (drop 1) h))
+
+position-map : {A B : Type 0} (p : B → Bool) (f : A → B) (xs : List A) → position (λ x. p (f x)) xs ≡ position p (map f xs)
+position-map p f [] = refl
+position-map p f (x ∷ xs) = position-cons (λ x. p (f x)) x xs ∙ ap (λ o. cond (p (f x)) (Some 0) (option_map (λ n. n + 1) o)) (position-map p f xs) ∙ sym (position-cons p (f x) (map f xs))
+
+-- a name's first place in the table is its first bearer's number
+pub site_by_name : (rec : DeviceRec) (entries : List SiteEntry) (name : ℕ) → AreSites rec entries → position (λ e. nat_eq e.name name) entries ≡ site_named rec name
+site_by_name rec entries name are =
+    position-map (λ n. nat_eq n name) (λ e. e.name) entries ∙ ap (position (λ n. nat_eq n name)) (same_names rec entries (sites_of rec) are) ∙ sym (position-map (λ n. nat_eq n name) (λ s. s.1.name) (sites_of rec))
+
+-- what the table tells of a site of this number
+pub site_at : (rec : DeviceRec) (entries : List SiteEntry) (site : ℕ) (e : SiteEntry) → AreSites rec entries → slice_get entries site ≡ Some e
+    → option_and_then (told_of rec) (slice_get (sites_of rec) site) ≡ entry_told e
+site_at rec entries site e are at =
+    through (slice_get (sites_of rec) site) (sym (slice_get-map (told_of rec) (sites_of rec) site) ∙ ap (λ l. slice_get l site) (sym are) ∙ slice_get-map entry_told entries site ∙ ap (option_map entry_told) at)
+  where
+    through : (o : Option (ℕ × Site)) → option_map (told_of rec) o ≡ Some (entry_told e) → option_and_then (told_of rec) o ≡ entry_told e
+    through None h = absurd (none-some (entry_told e) h)
+    through (Some s) h = same_Some (told_of rec s) (entry_told e) h

@@ -1,4 +1,5 @@
 //! A device that keeps all its rules, and what it tells by name and by number.
 #![tactic(auto)]
 
+mod names;
 mod sites;

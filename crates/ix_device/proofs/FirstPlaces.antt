@@ -1,0 +1,50 @@
+-- The first place in a list, item by item.
+use Rattle.std.proofs.Common.{◌≡◌, ◌<◌, ◌≤◌, ◌⊎◌, inl, inr, refl, ap, sym, ◌∙◌, ℕ, suc, zero, ◌+◌, Bool, true, false, cond, not, nat_lt, List, [], ◌∷◌, ◌++◌, take, length, slice_get, Option, Some, None, option_map, arith}
+use Rattle.std.specs.List.{position, position_or_len}
+use Rattle.std.proofs.lemmas.List.{length-take-le}
+use Rattle.std.proofs.lemmas.Bool.{lt-ltb, le-ltb, ltb-true, ltb-false}
+use Rattle.ix_first.specs.First.{or_later}
+use Rattle.ix_device.proofs.Walks.{take_next, length_take}
+
+one_less : (m n : ℕ) → nat_lt (1 + m) (suc n) ≡ nat_lt m n
+one_less m n = by (nat_lt m n) refl
+  where
+    by : (b : Bool) → nat_lt m n ≡ b → nat_lt (1 + m) (suc n) ≡ b
+    by true h = let lt : m < n = ltb-true m n h in lt-ltb (1 + m) (suc n) (omega arith)
+    by false h = let le : n ≤ m = ltb-false m n h in le-ltb (1 + m) (suc n) (omega arith)
+
+pub position-cons : {X : Type 0} (p : X → Bool) (x : X) (xs : List X) → position p (x ∷ xs) ≡ cond (p x) (Some 0) (option_map (λ n. n + 1) (position p xs))
+position-cons p x xs = by (p x)
+  where
+    shifted : (m : ℕ) (b : Bool) → cond b (Some (1 + m)) None ≡ option_map (λ n. n + 1) (cond b (Some m) None)
+    shifted m true = ap Some (omega arith)
+    shifted m false = refl
+
+    by : (b : Bool) → cond (nat_lt (cond (not b) (1 + position_or_len p xs) 0) (suc (length xs))) (Some (cond (not b) (1 + position_or_len p xs) 0)) None ≡ cond b (Some 0) (option_map (λ n. n + 1) (position p xs))
+    by true = ap (λ b. cond b (Some 0) None) (lt-ltb 0 (suc (length xs)) (omega arith))
+    by false = ap (λ b. cond b (Some (1 + position_or_len p xs)) None) (one_less (position_or_len p xs) (length xs)) ∙ shifted (position_or_len p xs) (nat_lt (position_or_len p xs) (length xs))
+
+pub position-push : {X : Type 0} (p : X → Bool) (xs : List X) (y : X) → position p (xs ++ y ∷ []) ≡ or_later (position p xs) (p y) (length xs)
+position-push p [] y = position-cons p y [] ∙ by (p y)
+  where
+    by : (b : Bool) → cond {A = Option ℕ} b (Some 0) None ≡ or_later None b 0
+    by true = refl
+    by false = refl
+position-push p (x ∷ xs) y =
+    position-cons p x (xs ++ y ∷ []) ∙ ap (λ o. cond (p x) (Some 0) (option_map (λ n. n + 1) o)) (position-push p xs y) ∙ by (p x) (position p xs) ∙ ap (λ o. or_later o (p y) (length (x ∷ xs))) (sym (position-cons p x xs))
+  where
+    later : (b : Bool) → option_map (λ n. n + 1) (or_later None b (length xs)) ≡ or_later None b (suc (length xs))
+    later true = ap Some (omega arith)
+    later false = refl
+
+    by : (b : Bool) (o : Option ℕ) → cond b (Some 0) (option_map (λ n. n + 1) (or_later o (p y) (length xs))) ≡ or_later (cond b (Some 0) (option_map (λ n. n + 1) o)) (p y) (suc (length xs))
+    by true o = refl
+    by false (Some n) = refl
+    by false None = later (p y)
+
+-- the first place among one item more
+pub one_more_place : {X : Type 0} (p : X → Bool) (xs : List X) (i : ℕ) (x : X) (found : Option ℕ) → slice_get xs i ≡ Some x → found ≡ position p (take i xs)
+    → or_later found (p x) i ≡ position p (take (i + 1) xs)
+one_more_place p xs i x found at h =
+    ap (λ f. or_later f (p x) i) h
+    ∙ sym (ap (position p) (take_next xs i x at) ∙ position-push p (take i xs) x ∙ ap (or_later (position p (take i xs)) (p x)) (length_take xs i x at))

@@ -1,6 +1,6 @@
 -- The first place in a list, item by item.
-use Rattle.std.proofs.Common.{◌≡◌, ◌<◌, ◌≤◌, ◌⊎◌, inl, inr, refl, ap, sym, ◌∙◌, ℕ, suc, zero, ◌+◌, Bool, true, false, cond, not, nat_lt, List, [], ◌∷◌, ◌++◌, take, length, slice_get, Option, Some, None, option_map, arith}
-use Rattle.std.specs.List.{position, position_or_len}
+use Rattle.std.proofs.Common.{◌≡◌, ◌<◌, ◌≤◌, ◌⊎◌, inl, inr, refl, ap, sym, ◌∙◌, ℕ, suc, zero, ◌+◌, Bool, true, false, cond, not, nat_lt, List, [], ◌∷◌, ◌++◌, take, length, slice_get, Option, Some, None, option_map, is_some, ◌||◌, arith}
+use Rattle.std.specs.List.{position, position_or_len, list_any}
 use Rattle.std.proofs.lemmas.List.{length-take-le}
 use Rattle.std.proofs.lemmas.Bool.{lt-ltb, le-ltb, ltb-true, ltb-false}
 use Rattle.ix_first.specs.First.{or_later}
@@ -48,3 +48,20 @@ pub one_more_place : {X : Type 0} (p : X → Bool) (xs : List X) (i : ℕ) (x : 
 one_more_place p xs i x found at h =
     ap (λ f. or_later f (p x) i) h
     ∙ sym (ap (position p) (take_next xs i x at) ∙ position-push p (take i xs) x ∙ ap (or_later (position p (take i xs)) (p x)) (length_take xs i x at))
+
+-- there is a first place exactly where an item passes
+pub is_some_position : {X : Type 0} (p : X → Bool) (xs : List X) → is_some (position p xs) ≡ list_any p xs
+is_some_position p [] = refl
+is_some_position p (x ∷ xs) = ap is_some (position-cons p x xs) ∙ by (p x) (position p xs) ∙ ap (λ b. p x || b) (is_some_position p xs)
+  where
+    by : (b : Bool) (o : Option ℕ) → is_some (cond b (Some 0) (option_map (λ n. n + 1) o)) ≡ (b || is_some o)
+    by true o = refl
+    by false (Some n) = refl
+    by false None = refl
+
+-- where none passes there is none, and where there is one, one passes
+pub none-place : {X : Type 0} (p : X → Bool) (xs : List X) → position p xs ≡ None → list_any p xs ≡ false
+none-place p xs h = sym (is_some_position p xs) ∙ ap is_some h
+
+pub some-place : {X : Type 0} (p : X → Bool) (xs : List X) (i : ℕ) → position p xs ≡ Some i → list_any p xs ≡ true
+some-place p xs i h = sym (is_some_position p xs) ∙ ap is_some h

@@ -1,3 +1,4 @@
+pub mod Differing
 pub mod FirstPlaces
 pub mod SiteLemmas
 pub mod Walks

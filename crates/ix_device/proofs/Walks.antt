@@ -1,6 +1,7 @@
 -- Walks over lists by place.
-use Rattle.std.proofs.Common.{◌≡◌, refl, ap, sym, subst, ◌∙◌, ℕ, zero, suc, ◌+◌, ◌<◌, List, [], ◌∷◌, ◌++◌, map, take, length, slice_get, Option, Some, None, arith}
-use Rattle.std.specs.List.{AllByRecursion}
+use Rattle.std.proofs.Common.{◌≡◌, refl, ap, sym, subst, ◌∙◌, ℕ, zero, suc, ◌+◌, ◌<◌, List, [], ◌∷◌, ◌++◌, map, take, length, slice_get, Option, Some, None, Bool, true, false, ◌&&◌, ◌||◌, get_or, arith}
+use Rattle.std.specs.List.{AllByRecursion, list_all, list_any}
+use Rattle.std.proofs.lemmas.List.Folds.{list_all_at, list_all_more, list_any_more}
 use Rattle.std.proofs.lemmas.Option.{same_Some, none-some, slice_get_within, get_or_from_slice_get}
 use Rattle.std.proofs.lemmas.List.{map_more, take_more, length-take-le}
 
@@ -19,3 +20,15 @@ pub at_place : {A : Type 0} (P : A → Type 0) (xs : List A) (i : ℕ) (x : A) �
 at_place P [] i x all h = absurd (none-some x h)
 at_place P (y ∷ ys) zero x all h = subst P (same_Some y x h) all.0
 at_place P (y ∷ ys) (suc i) x all h = at_place P ys i x all.1 h
+
+-- an item that fails a test fails it for all
+pub all_fails : {A : Type 0} (p : A → Bool) (xs : List A) (i : ℕ) (x : A) → slice_get xs i ≡ Some x → p x ≡ false → list_all p xs ≡ false
+all_fails p xs i x at h = list_all_at p xs i x (slice_get_within xs i x at) (ap p (get_or_from_slice_get xs i x x at) ∙ h)
+
+-- one more item passes too
+pub all_next : {A : Type 0} (p : A → Bool) (xs : List A) (i : ℕ) (x : A) → slice_get xs i ≡ Some x → list_all p (take i xs) ≡ true → p x ≡ true → list_all p (take (i + 1) xs) ≡ true
+all_next p xs i x at before h = list_all_more p xs i x (slice_get_within xs i x at) ∙ ap (λ b. b && p (get_or xs i x)) before ∙ ap p (get_or_from_slice_get xs i x x at) ∙ h
+
+-- what one of the items passes, with one item more
+pub any_next : {A : Type 0} (p : A → Bool) (xs : List A) (i : ℕ) (x : A) → slice_get xs i ≡ Some x → list_any p (take (i + 1) xs) ≡ (list_any p (take i xs) || p x)
+any_next p xs i x at = list_any_more p xs i x (slice_get_within xs i x at) ∙ ap (λ y. list_any p (take i xs) || p y) (get_or_from_slice_get xs i x x at)

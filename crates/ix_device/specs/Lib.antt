@@ -3,3 +3,4 @@ pub mod Elements
 pub mod Admission
 pub mod Sources
 pub mod Tables
+pub mod Listed

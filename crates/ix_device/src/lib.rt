@@ -1,5 +1,6 @@
 //! A device that keeps all its rules, and what it tells by name and by number.
 #![tactic(auto)]
 
+mod admissions;
 mod names;
 mod sites;

@@ -1,0 +1,83 @@
+//! Which pin map lists a BEL for a cell type.
+
+ghost use Rattle.std.specs.Prelude.{◌≡◌, ◌&&◌, ℕ, nat_eq, is_some, map, slice_get, Some, IfOk, OnOk};
+ghost use Rattle.std.specs.List.{list_any, list_all};
+ghost use Rattle.ix_keys.specs.declared.key.Key.{Key as KeySeen};
+ghost use Rattle.ix_keys.specs.Keys.{key};
+ghost use Rattle.ix_first.specs.First.{value_at, or_later};
+ghost use Rattle.ix_device_rules.specs.Rules.{has_pin};
+ghost use Rattle.ix_device.specs.Lookups.{pin_of_bel};
+ghost use Rattle.ix_device.specs.Elements.{differ};
+ghost use Rattle.ix_device.specs.Admission.{pins_differ};
+ghost use Rattle.ix_device.specs.Listed.{listing};
+
+use ix_first::FirstByKey;
+use ix_keys::Key;
+use ix_num::{BelPinId, Memory, NameId};
+use ix_rec::{CellBelPinEntry, Items, SiteType};
+use std::alloc::Global;
+
+/// The first pin map that lists a BEL for a cell type.
+#[derive(Clone, Copy)]
+pub(crate) struct Listing {
+    /// The place of the cell type in the device's map of cells to BELs.
+    pub mapping: u32,
+    /// The place of the pin map among those of the cell type.
+    pub pin_map: u32,
+    /// Whether the map names no pin twice and only pins of the BEL.
+    pub fits: bool,
+}
+
+// Whether the BEL has a pin of this name.
+#[tactic(auto, using(crate::proofs::FirstPlaces::is_some_position))]
+fn has_pin(t: &SiteType, bel_pins: &FirstByKey<BelPinId>, bel: NameId, pin: NameId) -> bool
+    requires { (b p : ℕ) → value_at bel_pins.now (key 0 b p) ≡ pin_of_bel b p t.now }
+    ensures { result ≡ has_pin t.now bel pin }
+{
+    let pin = bel_pins.get(Key::new(0, bel.get(), pin.get()));
+    pin.is_some()
+}
+
+// Whether each BEL pin of a map is a pin of this BEL.
+fn are_pins_of(
+    t: &SiteType,
+    bel_pins: &FirstByKey<BelPinId>,
+    bel: NameId,
+    pins: &Items<CellBelPinEntry>,
+) -> bool
+    requires { (b p : ℕ) → value_at bel_pins.now (key 0 b p) ≡ pin_of_bel b p t.now }
+    ensures { result ≡ list_all (λ p. has_pin t.now bel p.bel_pin) pins.now }
+{
+    for i in 0..pins.len() {
+        if !has_pin(t, bel_pins, bel, pins.at(i).bel_pin) {
+            return false;
+        }
+    }
+    true
+}
+
+// Whether a map names no cell pin twice.
+fn cell_pins_differ(alloc: Global, pins: &Items<CellBelPinEntry>) -> Result<bool, Memory>
+    ensures { IfOk result (λ yes. yes ≡ differ (map (λ p. p.cell_pin) pins.now)) }
+{
+    let mut names = FirstByKey::new(alloc);
+    for i in 0..pins.len() {
+        if !names.put(Key::of_name(pins.at(i).cell_pin.get()), ())? {
+            return Ok(false);
+        }
+    }
+    Ok(true)
+}
+
+// Whether a map names no BEL pin twice.
+fn bel_pins_differ(alloc: Global, pins: &Items<CellBelPinEntry>) -> Result<bool, Memory>
+    ensures { IfOk result (λ yes. yes ≡ differ (map (λ p. p.bel_pin) pins.now)) }
+{
+    let mut names = FirstByKey::new(alloc);
+    for i in 0..pins.len() {
+        if !names.put(Key::of_name(pins.at(i).bel_pin.get()), ())? {
+            return Ok(false);
+        }
+    }
+    Ok(true)
+}

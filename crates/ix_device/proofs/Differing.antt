@@ -8,7 +8,7 @@ use Rattle.ix_device_rules.specs.Rules.{is_new}
 use Rattle.ix_device.specs.Elements.{differ}
 use Rattle.ix_device.proofs.Walks.{take_next}
 
-nat_eq_sym : (a b : ℕ) → nat_eq a b ≡ nat_eq b a
+pub nat_eq_sym : (a b : ℕ) → nat_eq a b ≡ nat_eq b a
 nat_eq_sym a b = by (nat_eq a b) refl
   where
     by : (t : Bool) → nat_eq a b ≡ t → t ≡ nat_eq b a

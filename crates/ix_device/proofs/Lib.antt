@@ -1,4 +1,5 @@
 pub mod Differing
 pub mod FirstPlaces
+pub mod Listings
 pub mod SiteLemmas
 pub mod Walks

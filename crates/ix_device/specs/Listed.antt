@@ -1,5 +1,7 @@
 -- What the table of admissions says: for each cell type, site type and BEL that a pin map lists, the first such map.
 use Rattle.std.specs.Prelude.{ℕ, ◌+◌, Bool, ◌&&◌, List, [], ◌∷◌, Option, Some, None, nat_eq, if◌then◌else◌}
+use Rattle.std.specs.List.{list_any}
+use Rattle.ix_keys.specs.declared.key.Key.{Key}
 use Rattle.ix_rec.specs.declared.device.SiteType.{SiteType}
 use Rattle.ix_rec.specs.declared.device.CellBelMapping.{CellBelMapping}
 use Rattle.ix_rec.specs.declared.device.CommonCellBelPinMaps.{CommonCellBelPinMaps}
@@ -9,6 +11,11 @@ use Rattle.ix_device.specs.Admission.{lists_bel, fits_bel}
 -- a pin map by its places, and whether it fits the BEL
 abbrev pub listing : (mapping pin_map : ℕ) → Bool → Listing
 listing mapping pin_map fits = record { mapping = mapping; pin_map = pin_map; fits = fits }
+
+-- A key of the table is a site type's number, a BEL's name and a cell type's. It is one of a site type, a cell type and
+-- these BELs.
+abbrev pub names_one : (site_type cell : ℕ) → List ℕ → Key → Bool
+names_one site_type cell bels q = nat_eq site_type q.owner && (list_any (nat_eq q.part) bels && nat_eq cell q.name)
 
 -- the first of these pin maps that lists the BEL, the first of them having this place
 abbrev pub listed_in : SiteType → (bel mapping place : ℕ) → List CommonCellBelPinMaps → Option Listing

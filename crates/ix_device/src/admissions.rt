@@ -9,11 +9,11 @@ ghost use Rattle.ix_device_rules.specs.Rules.{has_pin};
 ghost use Rattle.ix_device.specs.Lookups.{pin_of_bel};
 ghost use Rattle.ix_device.specs.Elements.{differ};
 ghost use Rattle.ix_device.specs.Admission.{pins_differ};
-ghost use Rattle.ix_device.specs.Listed.{listing};
+ghost use Rattle.ix_device.specs.Listed.{listing, names_one};
 
 use ix_first::FirstByKey;
 use ix_keys::Key;
-use ix_num::{BelPinId, Memory, NameId};
+use ix_num::{BelPinId, Memory, NameId, SiteTypeId};
 use ix_rec::{CellBelPinEntry, Items, SiteType};
 use std::alloc::Global;
 
@@ -80,4 +80,54 @@ fn bel_pins_differ(alloc: Global, pins: &Items<CellBelPinEntry>) -> Result<bool,
         }
     }
     Ok(true)
+}
+
+// A pin map of a cell type, by its places, and whether it names no pin twice.
+#[derive(Clone, Copy)]
+struct PinMap {
+    cell: NameId,
+    mapping: u32,
+    pin_map: u32,
+    differ: bool,
+}
+
+// Whether a pin map names no pin twice and only pins of this BEL.
+fn fits_bel(
+    map: &PinMap,
+    t: &SiteType,
+    bel_pins: &FirstByKey<BelPinId>,
+    bel: NameId,
+    pins: &Items<CellBelPinEntry>,
+) -> bool
+    requires { (b p : ℕ) → value_at bel_pins.now (key 0 b p) ≡ pin_of_bel b p t.now }
+    ensures { result ≡ (map.now.differ && list_all (λ p. has_pin t.now bel p.bel_pin) pins.now) }
+{
+    map.differ && are_pins_of(t, bel_pins, bel, pins)
+}
+
+// Puts a pin map's listing of these BELs of a site type, for each that has none yet.
+fn put_bels(
+    table: &mut FirstByKey<Listing>,
+    map: &PinMap,
+    pins: &Items<CellBelPinEntry>,
+    owner: SiteTypeId,
+    t: &SiteType,
+    bel_pins: &FirstByKey<BelPinId>,
+    bels: &Items<NameId>,
+) -> Result<(), Memory>
+    requires { (b p : ℕ) → value_at bel_pins.now (key 0 b p) ≡ pin_of_bel b p t.now }
+    ensures { OnOk result ((q : KeySeen) → value_at table.new q
+        ≡ or_later (value_at table.old q) (names_one owner map.now.cell bels.now q) (listing map.now.mapping map.now.pin_map (map.now.differ && list_all (λ p. has_pin t.now q.part p.bel_pin) pins.now))) }
+{
+    for i in 0..bels.len() {
+        let bel = *bels.at(i);
+        let fits = fits_bel(map, t, bel_pins, bel, pins);
+        let found = Listing {
+            mapping: map.mapping,
+            pin_map: map.pin_map,
+            fits,
+        };
+        table.put(Key::new(owner.get(), bel.get(), map.cell.get()), found)?;
+    }
+    Ok(())
 }

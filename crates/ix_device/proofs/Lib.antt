@@ -1,3 +1,4 @@
 pub mod FirstPlaces
 pub mod SiteLemmas
 pub mod Walks
+pub mod WireLemmas

@@ -3,3 +3,4 @@
 
 mod names;
 mod sites;
+mod types;

@@ -3,3 +3,4 @@ pub mod FirstPlaces
 pub mod Listings
 pub mod SiteLemmas
 pub mod Walks
+pub mod WireLemmas

@@ -4,3 +4,4 @@
 mod admissions;
 mod names;
 mod sites;
+mod types;

@@ -1,0 +1,12 @@
+use Rattle.std.proofs.Common.{◌≡◌, ℕ, ap, ◌∙◌, nat_eq}
+use Rattle.ix_keys.specs.Keys.{name_key, key_eq}
+use Rattle.ix_first.specs.First.{value_at, or_later}
+use Rattle.ix_device.proofs.FirstPlaces.{one_more_place}
+use Rattle.ix_device.proofs.types.site_pin_numbers.Goals as goal
+
+pub loop-i-preserved : goal.loop-i-preserved
+loop-i-preserved c =
+    λ name. c.in_ok-put.ensures.values (name_key name)
+    ∙ ap (λ k. or_later (value_at c.loop-i.table (name_key name)) (key_eq k (name_key name)) c.new-pin.result) (c.of_name.ensures ∙ ap name_key c.get.ensures)
+    ∙ ap (or_later (value_at c.loop-i.table (name_key name)) (nat_eq c.at.result.now.name name)) (c.new-pin.ensures ∙ c.in_ok-number_of.ensures)
+    ∙ one_more_place (λ p. nat_eq p.name name) c.args.ty.now.pins c.loop-i.i c.at.result.now (value_at c.loop-i.table (name_key name)) c.at.ensures (c.loop-i.invariant name)

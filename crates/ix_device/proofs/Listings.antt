@@ -1,12 +1,24 @@
 -- The table of admissions, put by put.
 use Rattle.std.proofs.Common.{◌≡◌, refl, ap, sym, ◌∙◌, ℕ, ◌+◌, Bool, true, false, true≢false, ◌&&◌, ◌||◌, nat_eq, List, [], ◌∷◌, ◌++◌, take, slice_get, Option, Some, None}
 use Rattle.std.specs.List.{list_any, list_all}
-use Rattle.std.proofs.lemmas.Bool.{eqb-true}
+use Rattle.std.specs.List.{position}
+use Rattle.std.proofs.lemmas.Bool.{eqb-true, eqb-false, eq-eqb, ne_eqb}
+use Rattle.std.proofs.lemmas.Option.{same_Some, get_or_from_slice_get}
+use Rattle.std.proofs.lemmas.List.Quantifiers.{position-Some}
+use Rattle.std.proofs.lemmas.Map.Keys.{any_passes_from_place}
+use Rattle.ix_rec.specs.declared.device.SiteType.{SiteType}
+use Rattle.ix_rec.specs.declared.device.SiteTypeBelEntry.{SiteTypeBelEntry}
+use Rattle.ix_rec.specs.declared.device.CellBelPinEntry.{CellBelPinEntry}
+use Rattle.ix_first.specs.declared.by_key.FirstByKey.{FirstByKey}
+use Rattle.ix_device_rules.specs.Rules.{has_pin}
+use Rattle.ix_device.specs.declared.admissions.PinMap.{PinMap}
+use Rattle.ix_device.specs.Premises.{TypesDiffer}
+use Rattle.ix_device.proofs.FirstPlaces.{none-place}
 use Rattle.ix_keys.specs.declared.key.Key.{Key}
 use Rattle.ix_keys.specs.Keys.{key, key_eq}
-use Rattle.ix_first.specs.First.{or_later}
+use Rattle.ix_first.specs.First.{value_at, or_later}
 use Rattle.ix_device.specs.declared.admissions.Listing.{Listing}
-use Rattle.ix_device.specs.Listed.{listing, names_one}
+use Rattle.ix_device.specs.Listed.{listing, names_one, entry_lists, PutsMap}
 use Rattle.ix_device.proofs.Walks.{any_next}
 use Rattle.ix_device.proofs.Differing.{nat_eq_sym}
 
@@ -52,3 +64,75 @@ one_more_put owner cell bels i bel f old now new at before step q =
 
 pub same_key : (a b c x y z : ℕ) (k : Key) → k ≡ key a b c → a ≡ x → b ≡ y → c ≡ z → k ≡ key x y z
 same_key a b c x y z k h ha hb hc = h ∙ ap (λ n. key n b c) ha ∙ ap (λ n. key x n c) hb ∙ ap (λ n. key x y n) hc
+
+-- A name's first site type owns just the entries that name it.
+pub owner_named : (types : List SiteType) (name owner k : ℕ) (t : SiteType) → TypesDiffer types → position (λ u. nat_eq u.name name) types ≡ Some owner → slice_get types k ≡ Some t → nat_eq owner k ≡ nat_eq name t.name
+owner_named types name owner k t differ found at = by (nat_eq name t.name) refl
+  where
+    by : (b : Bool) → nat_eq name t.name ≡ b → nat_eq owner k ≡ b
+    by true h = eq-eqb owner k (same_Some owner k (sym found ∙ ap (λ n. position (λ u. nat_eq u.name n) types) (eqb-true name t.name h) ∙ differ k t at))
+    by false h = ne_eqb owner k (λ e. eqb-false name t.name h (sym (eqb-true t.name name (ap (λ u. nat_eq u.name name) (sym (get_or_from_slice_get types owner t t (ap (slice_get types) e ∙ at))) ∙ (position-Some (λ u. nat_eq u.name name) types owner t found).1))))
+
+-- An entry of a site type that isn't there names none.
+pub unowned : (types : List SiteType) (name k : ℕ) (t : SiteType) → position (λ u. nat_eq u.name name) types ≡ None → slice_get types k ≡ Some t → nat_eq name t.name ≡ false
+unowned types name k t none at = by (nat_eq name t.name) refl
+  where
+    by : (b : Bool) → nat_eq name t.name ≡ b → b ≡ false
+    by false h = refl
+    by true h = sym (any_passes_from_place (λ u. nat_eq u.name name) types k t at (eq-eqb t.name name (sym (eqb-true name t.name h)))) ∙ none-place (λ u. nat_eq u.name name) types none
+
+later_or : {V : Type 0} (o : Option V) (s t : Bool) (v : V) → or_later (or_later o s v) t v ≡ or_later o (s || t) v
+later_or o s t v = or_step o s t v v (λ h. refl)
+
+spread_cells : (a b c : Bool) → ((a && c) || ((b || false) && c)) ≡ ((a || b) && c)
+spread_cells true b true = refl
+spread_cells true true false = refl
+spread_cells true false false = refl
+spread_cells false true c = refl
+spread_cells false false c = refl
+
+-- one more entry was put
+pub one_more_entry : (types : List SiteType) (old now new : FirstByKey Listing) (map : PinMap) (entries : List SiteTypeBelEntry) (pins : List CellBelPinEntry) (i : ℕ) (e : SiteTypeBelEntry)
+    → slice_get entries i ≡ Some e → PutsMap types old now map (take i entries) pins → PutsMap types now new map (e ∷ []) pins → PutsMap types old new map (take (i + 1) entries) pins
+one_more_entry types old now new map entries pins i e at before step k t at_k bel cell =
+    step k t at_k bel cell ∙ ap (λ o. or_later o ((entry_lists t bel e || false) && nat_eq map.cell cell) v) (before k t at_k bel cell)
+    ∙ later_or (value_at old (key k bel cell)) (list_any (entry_lists t bel) (take i entries) && nat_eq map.cell cell) ((entry_lists t bel e || false) && nat_eq map.cell cell) v
+    ∙ ap (λ b. or_later (value_at old (key k bel cell)) b v) (spread_cells (list_any (entry_lists t bel) (take i entries)) (entry_lists t bel e) (nat_eq map.cell cell) ∙ ap (λ b. b && nat_eq map.cell cell) (sym (any_next (entry_lists t bel) entries i e at)))
+  where
+    v : Listing
+    v = listing map.mapping map.pin_map (map.differ && list_all (λ p. has_pin t bel p.bel_pin) pins)
+
+later_false : {V : Type 0} (o : Option V) (v : V) → or_later o false v ≡ o
+later_false (Some w) v = refl
+later_false None v = refl
+
+-- an entry of a site type that isn't there was passed over
+pub passed_entry : (types : List SiteType) (table : FirstByKey Listing) (map : PinMap) (e : SiteTypeBelEntry) (pins : List CellBelPinEntry) → position (λ u. nat_eq u.name e.site_type) types ≡ None → PutsMap types table table map (e ∷ []) pins
+passed_entry types table map e pins none k t at bel cell =
+    sym (ap (λ b. or_later (value_at table (key k bel cell)) (((b && list_any (nat_eq bel) e.bels) || false) && nat_eq map.cell cell) v) (unowned types e.site_type k t none at) ∙ later_false (value_at table (key k bel cell)) v)
+  where
+    v : Listing
+    v = listing map.mapping map.pin_map (map.differ && list_all (λ p. has_pin t bel p.bel_pin) pins)
+
+-- the BELs of an entry were put
+pub put_of_entry : (types : List SiteType) (old new : FirstByKey Listing) (map : PinMap) (e : SiteTypeBelEntry) (pins : List CellBelPinEntry) (owner : ℕ) (u : SiteType)
+    → TypesDiffer types → position (λ v. nat_eq v.name e.site_type) types ≡ Some owner → slice_get types owner ≡ Some u
+    → ((q : Key) → value_at new q ≡ or_later (value_at old q) (names_one owner map.cell e.bels q) (listing map.mapping map.pin_map (map.differ && list_all (λ p. has_pin u q.part p.bel_pin) pins)))
+    → PutsMap types old new map (e ∷ []) pins
+put_of_entry types old new map e pins owner u differ found at_owner step k t at bel cell = step (key k bel cell) ∙ by (nat_eq owner k) refl
+  where
+    value : SiteType → Listing
+    value s = listing map.mapping map.pin_map (map.differ && list_all (λ p. has_pin s bel p.bel_pin) pins)
+    tests : (l c : Bool) → (l && c) ≡ ((l || false) && c)
+    tests true c = refl
+    tests false c = refl
+    by : (b : Bool) → nat_eq owner k ≡ b → or_later (value_at old (key k bel cell)) (nat_eq owner k && (list_any (nat_eq bel) e.bels && nat_eq map.cell cell)) (value u) ≡ or_later (value_at old (key k bel cell)) ((entry_lists t bel e || false) && nat_eq map.cell cell) (value t)
+    by true h =
+        ap (λ b. or_later (value_at old (key k bel cell)) (b && (list_any (nat_eq bel) e.bels && nat_eq map.cell cell)) (value u)) h
+        ∙ ap (λ s. or_later (value_at old (key k bel cell)) (list_any (nat_eq bel) e.bels && nat_eq map.cell cell) (value s)) (same_Some u t (sym at_owner ∙ ap (slice_get types) (eqb-true owner k h) ∙ at))
+        ∙ ap (λ b. or_later (value_at old (key k bel cell)) b (value t)) (tests (list_any (nat_eq bel) e.bels) (nat_eq map.cell cell))
+        ∙ ap (λ b. or_later (value_at old (key k bel cell)) (((b && list_any (nat_eq bel) e.bels) || false) && nat_eq map.cell cell) (value t)) (sym h ∙ owner_named types e.site_type owner k t differ found at)
+    by false h =
+        ap (λ b. or_later (value_at old (key k bel cell)) (b && (list_any (nat_eq bel) e.bels && nat_eq map.cell cell)) (value u)) h
+        ∙ later_false (value_at old (key k bel cell)) (value u) ∙ sym (later_false (value_at old (key k bel cell)) (value t))
+        ∙ ap (λ b. or_later (value_at old (key k bel cell)) (((b && list_any (nat_eq bel) e.bels) || false) && nat_eq map.cell cell) (value t)) (sym h ∙ owner_named types e.site_type owner k t differ found at)

@@ -4,3 +4,4 @@ pub mod Admission
 pub mod Sources
 pub mod Tables
 pub mod Listed
+pub mod Premises

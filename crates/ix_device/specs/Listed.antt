@@ -1,7 +1,14 @@
 -- What the table of admissions says: for each cell type, site type and BEL that a pin map lists, the first such map.
-use Rattle.std.specs.Prelude.{ℕ, ◌+◌, Bool, ◌&&◌, List, [], ◌∷◌, Option, Some, None, nat_eq, if◌then◌else◌}
-use Rattle.std.specs.List.{list_any}
+use Rattle.std.specs.Prelude.{◌≡◌, ℕ, ◌+◌, slice_get, Bool, ◌&&◌, List, [], ◌∷◌, Option, Some, None, nat_eq, if◌then◌else◌}
+use Rattle.std.specs.List.{list_any, list_all}
 use Rattle.ix_keys.specs.declared.key.Key.{Key}
+use Rattle.ix_keys.specs.Keys.{key}
+use Rattle.ix_first.specs.declared.by_key.FirstByKey.{FirstByKey}
+use Rattle.ix_first.specs.First.{value_at, or_later}
+use Rattle.ix_rec.specs.declared.device.SiteTypeBelEntry.{SiteTypeBelEntry}
+use Rattle.ix_rec.specs.declared.device.CellBelPinEntry.{CellBelPinEntry}
+use Rattle.ix_device_rules.specs.Rules.{has_pin}
+use Rattle.ix_device.specs.declared.admissions.PinMap.{PinMap}
 use Rattle.ix_rec.specs.declared.device.SiteType.{SiteType}
 use Rattle.ix_rec.specs.declared.device.CellBelMapping.{CellBelMapping}
 use Rattle.ix_rec.specs.declared.device.CommonCellBelPinMaps.{CommonCellBelPinMaps}
@@ -16,6 +23,16 @@ listing mapping pin_map fits = record { mapping = mapping; pin_map = pin_map; fi
 -- these BELs.
 abbrev pub names_one : (site_type cell : ℕ) → List ℕ → Key → Bool
 names_one site_type cell bels q = nat_eq site_type q.owner && (list_any (nat_eq q.part) bels && nat_eq cell q.name)
+
+-- an entry lists the BEL of this name of the site type
+abbrev pub entry_lists : SiteType → ℕ → SiteTypeBelEntry → Bool
+entry_lists t bel e = nat_eq e.site_type t.name && list_any (nat_eq bel) e.bels
+
+-- what a pin map puts of each BEL of each site type, by these of its entries
+abbrev pub PutsMap : List SiteType → (old new : FirstByKey Listing) → PinMap → List SiteTypeBelEntry → List CellBelPinEntry → Type 0
+PutsMap types old new map entries pins =
+    (k : ℕ) (t : SiteType) → slice_get types k ≡ Some t → (bel cell : ℕ)
+      → value_at new (key k bel cell) ≡ or_later (value_at old (key k bel cell)) (list_any (entry_lists t bel) entries && nat_eq map.cell cell) (listing map.mapping map.pin_map (map.differ && list_all (λ p. has_pin t bel p.bel_pin) pins))
 
 -- the first of these pin maps that lists the BEL, the first of them having this place
 abbrev pub listed_in : SiteType → (bel mapping place : ℕ) → List CommonCellBelPinMaps → Option Listing

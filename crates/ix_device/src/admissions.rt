@@ -1,20 +1,22 @@
 //! Which pin map lists a BEL for a cell type.
 
-ghost use Rattle.std.specs.Prelude.{◌≡◌, ◌&&◌, ℕ, nat_eq, is_some, map, slice_get, Some, IfOk, OnOk};
-ghost use Rattle.std.specs.List.{list_any, list_all};
+ghost use Rattle.std.specs.Prelude.{◌≡◌, ◌&&◌, ℕ, [], ◌∷◌, nat_eq, is_some, map, slice_get, Some, IfOk, OnOk};
+ghost use Rattle.std.specs.List.{list_any, list_all, position};
 ghost use Rattle.ix_keys.specs.declared.key.Key.{Key as KeySeen};
-ghost use Rattle.ix_keys.specs.Keys.{key};
+ghost use Rattle.ix_keys.specs.Keys.{key, name_key};
 ghost use Rattle.ix_first.specs.First.{value_at, or_later};
 ghost use Rattle.ix_device_rules.specs.Rules.{has_pin};
 ghost use Rattle.ix_device.specs.Lookups.{pin_of_bel};
 ghost use Rattle.ix_device.specs.Elements.{differ};
 ghost use Rattle.ix_device.specs.Admission.{pins_differ};
-ghost use Rattle.ix_device.specs.Listed.{listing, names_one};
+ghost use Rattle.ix_device.specs.Listed.{listing, names_one, PutsMap};
+ghost use Rattle.ix_device.specs.Premises.{TypesDiffer, FindPins};
 
+use crate::type_tables::TypeTables;
 use ix_first::FirstByKey;
 use ix_keys::Key;
 use ix_num::{BelPinId, Memory, NameId, SiteTypeId};
-use ix_rec::{CellBelPinEntry, Items, SiteType};
+use ix_rec::{CellBelPinEntry, Items, SiteType, SiteTypeBelEntry};
 use std::alloc::Global;
 
 /// The first pin map that lists a BEL for a cell type.
@@ -128,6 +130,54 @@ fn put_bels(
             fits,
         };
         table.put(Key::new(owner.get(), bel.get(), map.cell.get()), found)?;
+    }
+    Ok(())
+}
+
+// Puts a pin map's listings of the BELs of one entry. An entry of a site type that isn't there is without effect.
+fn put_entry(
+    table: &mut FirstByKey<Listing>,
+    map: &PinMap,
+    pins: &Items<CellBelPinEntry>,
+    entry: &SiteTypeBelEntry,
+    site_types: &FirstByKey<SiteTypeId>,
+    types: &Items<SiteType>,
+    tables: &Items<TypeTables>,
+) -> Result<(), Memory>
+    requires differ { TypesDiffer types.now }
+    requires named { (name : ℕ) → value_at site_types.now (name_key name) ≡ position (λ t. nat_eq t.name name) types.now }
+    requires find { FindPins types.now tables.now }
+    ensures { OnOk result (PutsMap types.now table.old table.new map.now (entry.now ∷ []) pins.now) }
+{
+    match site_types.get(Key::of_name(entry.site_type.get())) {
+        None => Ok(()),
+        Some(owner) => {
+            let place = owner.get() as usize;
+            let t = types.at(place);
+            let bel_pins = &tables.at(place).bel_pins;
+            put_bels(table, map, pins, owner, t, bel_pins, &entry.bels)?;
+            Ok(())
+        }
+    }
+}
+
+// Puts a pin map's listings of the BELs of these entries.
+fn put_map(
+    table: &mut FirstByKey<Listing>,
+    map: &PinMap,
+    pins: &Items<CellBelPinEntry>,
+    entries: &Items<SiteTypeBelEntry>,
+    site_types: &FirstByKey<SiteTypeId>,
+    types: &Items<SiteType>,
+    tables: &Items<TypeTables>,
+) -> Result<(), Memory>
+    requires differ { TypesDiffer types.now }
+    requires named { (name : ℕ) → value_at site_types.now (name_key name) ≡ position (λ t. nat_eq t.name name) types.now }
+    requires find { FindPins types.now tables.now }
+    ensures { OnOk result (PutsMap types.now table.old table.new map.now entries.now pins.now) }
+{
+    for i in 0..entries.len() {
+        put_entry(table, map, pins, entries.at(i), site_types, types, tables)?;
     }
     Ok(())
 }

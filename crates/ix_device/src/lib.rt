@@ -4,4 +4,5 @@
 mod admissions;
 mod names;
 mod sites;
+mod type_tables;
 mod types;

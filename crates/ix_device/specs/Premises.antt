@@ -1,0 +1,17 @@
+-- What the table of admissions asks of a device and of the tables of its site types.
+use Rattle.std.specs.Prelude.{◌≡◌, ℕ, List, length, slice_get, Option, Some, nat_eq}
+use Rattle.std.specs.List.{position}
+use Rattle.ix_keys.specs.Keys.{key}
+use Rattle.ix_first.specs.First.{value_at}
+use Rattle.ix_rec.specs.declared.device.SiteType.{SiteType}
+use Rattle.ix_device.specs.declared.type_tables.TypeTables.{TypeTables}
+use Rattle.ix_device.specs.Lookups.{pin_of_bel}
+
+-- no two site types have one name
+abbrev pub TypesDiffer : List SiteType → Type 0
+TypesDiffer types = (k : ℕ) (t : SiteType) → slice_get types k ≡ Some t → position (λ u. nat_eq u.name t.name) types ≡ Some k
+
+-- the tables of each site type find its BEL pins
+pub record FindPins (types : List SiteType) (tables : List TypeTables) : Type 0 where
+  pub same_length : length tables ≡ length types
+  pub pins : (k : ℕ) (t : SiteType) (x : TypeTables) → slice_get types k ≡ Some t → slice_get tables k ≡ Some x → (bel name : ℕ) → value_at x.bel_pins (key 0 bel name) ≡ pin_of_bel bel name t

@@ -1,5 +1,5 @@
 -- The table of admissions, put by put.
-use Rattle.std.proofs.Common.{◌≡◌, refl, ap, sym, ◌∙◌, ℕ, ◌+◌, Bool, true, false, true≢false, ◌&&◌, ◌||◌, nat_eq, List, [], ◌∷◌, ◌++◌, take, slice_get, Option, Some, None}
+use Rattle.std.proofs.Common.{◌≡◌, refl, ap, sym, ◌∙◌, ℕ, ◌+◌, Bool, true, false, true≢false, not, ◌&&◌, ◌||◌, nat_eq, List, [], ◌∷◌, ◌++◌, map, take, length, if◌then◌else◌, arith, slice_get, Option, Some, None}
 use Rattle.std.specs.List.{list_any, list_all}
 use Rattle.std.specs.List.{position}
 use Rattle.std.proofs.lemmas.Bool.{eqb-true, eqb-false, eq-eqb, ne_eqb}
@@ -10,7 +10,10 @@ use Rattle.ix_rec.specs.declared.device.SiteType.{SiteType}
 use Rattle.ix_rec.specs.declared.device.SiteTypeBelEntry.{SiteTypeBelEntry}
 use Rattle.ix_rec.specs.declared.device.CellBelPinEntry.{CellBelPinEntry}
 use Rattle.ix_first.specs.declared.by_key.FirstByKey.{FirstByKey}
-use Rattle.ix_device_rules.specs.Rules.{has_pin}
+use Rattle.ix_rec.specs.declared.device.CellBelMapping.{CellBelMapping}
+use Rattle.ix_rec.specs.declared.device.CommonCellBelPinMaps.{CommonCellBelPinMaps}
+use Rattle.ix_device_rules.specs.Rules.{has_pin, is_new}
+use Rattle.ix_device.specs.Admission.{lists_bel, fits_bel, pins_differ}
 use Rattle.ix_device.specs.declared.admissions.PinMap.{PinMap}
 use Rattle.ix_device.specs.Premises.{TypesDiffer}
 use Rattle.ix_device.proofs.FirstPlaces.{none-place}
@@ -18,8 +21,8 @@ use Rattle.ix_keys.specs.declared.key.Key.{Key}
 use Rattle.ix_keys.specs.Keys.{key, key_eq}
 use Rattle.ix_first.specs.First.{value_at, or_later}
 use Rattle.ix_device.specs.declared.admissions.Listing.{Listing}
-use Rattle.ix_device.specs.Listed.{listing, names_one, entry_lists, PutsMap}
-use Rattle.ix_device.proofs.Walks.{any_next}
+use Rattle.ix_device.specs.Listed.{listing, names_one, entry_lists, PutsMap, PutsMapping, AreListings, listed_in, listed_from, or_found}
+use Rattle.ix_device.proofs.Walks.{any_next, take_next, length_take}
 use Rattle.ix_device.proofs.Differing.{nat_eq_sym}
 
 -- two values of one key, put one after the other
@@ -136,3 +139,94 @@ put_of_entry types old new map e pins owner u differ found at_owner step k t at 
         ap (λ b. or_later (value_at old (key k bel cell)) (b && (list_any (nat_eq bel) e.bels && nat_eq map.cell cell)) (value u)) h
         ∙ later_false (value_at old (key k bel cell)) (value u) ∙ sym (later_false (value_at old (key k bel cell)) (value t))
         ∙ ap (λ b. or_later (value_at old (key k bel cell)) (((b && list_any (nat_eq bel) e.bels) || false) && nat_eq map.cell cell) (value t)) (sym h ∙ owner_named types e.site_type owner k t differ found at)
+
+-- one map more among a cell type's
+listed_push : (t : SiteType) (bel mapping place : ℕ) (ms : List CommonCellBelPinMaps) (m : CommonCellBelPinMaps)
+    → listed_in t bel mapping place (ms ++ m ∷ []) ≡ or_later (listed_in t bel mapping place ms) (lists_bel t bel m) (listing mapping (place + length ms) (fits_bel t bel m.pins))
+listed_push t bel mapping place [] m = ap (λ n. if lists_bel t bel m then Some (listing mapping n (fits_bel t bel m.pins)) else None) (omega arith)
+listed_push t bel mapping place (x ∷ xs) m =
+    by (lists_bel t bel x) (listed_push t bel mapping (place + 1) xs m ∙ ap (λ n. or_later (listed_in t bel mapping (place + 1) xs) (lists_bel t bel m) (listing mapping n (fits_bel t bel m.pins))) (omega arith))
+  where
+    by : (b : Bool) → listed_in t bel mapping (place + 1) (xs ++ m ∷ []) ≡ or_later (listed_in t bel mapping (place + 1) xs) (lists_bel t bel m) (listing mapping (place + length (x ∷ xs)) (fits_bel t bel m.pins))
+        → (if b then Some (listing mapping place (fits_bel t bel x.pins)) else listed_in t bel mapping (place + 1) (xs ++ m ∷ []))
+        ≡ or_later (if b then Some (listing mapping place (fits_bel t bel x.pins)) else listed_in t bel mapping (place + 1) xs) (lists_bel t bel m) (listing mapping (place + length (x ∷ xs)) (fits_bel t bel m.pins))
+    by true h = refl
+    by false h = h
+
+found_or : (o f : Option Listing) (b l : Bool) (v : Listing) → or_later (or_found o b f) (l && b) v ≡ or_found o b (or_later f l v)
+found_or (Some w) f b l v = refl
+found_or None (Some g) true l v = refl
+found_or None None true true v = refl
+found_or None None true false v = refl
+found_or None f false true v = refl
+found_or None f false false v = refl
+
+-- one more map of a cell type was put
+pub one_more_map : (types : List SiteType) (old now new : FirstByKey Listing) (map : PinMap) (place : ℕ) (maps : List CommonCellBelPinMaps) (i : ℕ) (m : CommonCellBelPinMaps)
+    → slice_get maps i ≡ Some m → map.mapping ≡ place → map.pin_map ≡ i → map.differ ≡ pins_differ m.pins
+    → PutsMapping types old now place map.cell (take i maps) → PutsMap types now new map m.site_types m.pins → PutsMapping types old new place map.cell (take (i + 1) maps)
+one_more_map types old now new map place maps i m at is_place is_map differ before step k t at_k bel q =
+    step k t at_k bel q
+    ∙ ap (λ o. or_later o (lists_bel t bel m && nat_eq map.cell q) (listing map.mapping map.pin_map (map.differ && list_all (λ p. has_pin t bel p.bel_pin) m.pins))) (before k t at_k bel q)
+    ∙ ap (or_later (or_found (value_at old (key k bel q)) (nat_eq map.cell q) (listed_in t bel place 0 (take i maps))) (lists_bel t bel m && nat_eq map.cell q)) (same_listing map.mapping place map.pin_map i map.differ (pins_differ m.pins) is_place is_map differ)
+    ∙ found_or (value_at old (key k bel q)) (listed_in t bel place 0 (take i maps)) (nat_eq map.cell q) (lists_bel t bel m) (listing place i (fits_bel t bel m.pins))
+    ∙ ap (or_found (value_at old (key k bel q)) (nat_eq map.cell q)) (sym (ap (listed_in t bel place 0) (take_next maps i m at) ∙ listed_push t bel place 0 (take i maps) m ∙ ap (λ n. or_later (listed_in t bel place 0 (take i maps)) (lists_bel t bel m) (listing place n (fits_bel t bel m.pins))) (let len = length_take maps i m at in omega arith)))
+  where
+    same_listing : (a b c d : ℕ) (x y : Bool) → a ≡ b → c ≡ d → x ≡ y → listing a c (x && list_all (λ p. has_pin t bel p.bel_pin) m.pins) ≡ listing b d (y && list_all (λ p. has_pin t bel p.bel_pin) m.pins)
+    same_listing a b c d x y ab cd xy = ap (λ n. listing n c (x && list_all (λ p. has_pin t bel p.bel_pin) m.pins)) ab ∙ ap (λ n. listing b n (x && list_all (λ p. has_pin t bel p.bel_pin) m.pins)) cd ∙ ap (λ z. listing b d (z && list_all (λ p. has_pin t bel p.bel_pin) m.pins)) xy
+
+-- one mapping more
+from_push : (t : SiteType) (bel cell place : ℕ) (ms : List CellBelMapping) (m : CellBelMapping)
+    → listed_from t bel cell place (ms ++ m ∷ []) ≡ (if is_new (map (λ x. x.cell) ms) cell then (if nat_eq m.cell cell then listed_in t bel (place + length ms) 0 m.common_pins else None) else listed_from t bel cell place ms)
+from_push t bel cell place [] m = ap (λ n. if nat_eq m.cell cell then listed_in t bel n 0 m.common_pins else None) (omega arith)
+from_push t bel cell place (x ∷ xs) m =
+    by (nat_eq x.cell cell) (from_push t bel cell (place + 1) xs m ∙ ap (λ n. if is_new (map (λ y. y.cell) xs) cell then (if nat_eq m.cell cell then listed_in t bel n 0 m.common_pins else None) else listed_from t bel cell (place + 1) xs) (omega arith))
+    ∙ ap (λ b. if not (b || list_any (nat_eq cell) (map (λ y. y.cell) xs)) then (if nat_eq m.cell cell then listed_in t bel (place + length (x ∷ xs)) 0 m.common_pins else None) else listed_from t bel cell place (x ∷ xs)) (nat_eq_sym x.cell cell)
+  where
+    by : (b : Bool) → listed_from t bel cell (place + 1) (xs ++ m ∷ []) ≡ (if is_new (map (λ y. y.cell) xs) cell then (if nat_eq m.cell cell then listed_in t bel (place + length (x ∷ xs)) 0 m.common_pins else None) else listed_from t bel cell (place + 1) xs)
+        → (if b then listed_in t bel place 0 x.common_pins else listed_from t bel cell (place + 1) (xs ++ m ∷ []))
+        ≡ (if not (b || list_any (nat_eq cell) (map (λ y. y.cell) xs)) then (if nat_eq m.cell cell then listed_in t bel (place + length (x ∷ xs)) 0 m.common_pins else None) else (if b then listed_in t bel place 0 x.common_pins else listed_from t bel cell (place + 1) xs))
+    by true h = refl
+    by false h = h
+
+-- where no mapping is of the cell type, nothing is listed
+pub none_listed : (t : SiteType) (bel cell place : ℕ) (ms : List CellBelMapping) → is_new (map (λ x. x.cell) ms) cell ≡ true → listed_from t bel cell place ms ≡ None
+none_listed t bel cell place [] h = refl
+none_listed t bel cell place (x ∷ xs) h = by (nat_eq x.cell cell) (none_listed t bel cell (place + 1) xs) (ap (λ b. not (b || list_any (nat_eq cell) (map (λ y. y.cell) xs))) (nat_eq_sym x.cell cell) ∙ h)
+  where
+    by : (b : Bool) → (is_new (map (λ y. y.cell) xs) cell ≡ true → listed_from t bel cell (place + 1) xs ≡ None) → not (b || list_any (nat_eq cell) (map (λ y. y.cell) xs)) ≡ true
+        → (if b then listed_in t bel place 0 x.common_pins else listed_from t bel cell (place + 1) xs) ≡ None
+    by true rest h = absurd (true≢false (sym h))
+    by false rest h = rest h
+
+-- the first mapping of a cell type was put
+pub new_mapping : (types : List SiteType) (now new : FirstByKey Listing) (ms : List CellBelMapping) (i : ℕ) (m : CellBelMapping) → slice_get ms i ≡ Some m → is_new (map (λ x. x.cell) (take i ms)) m.cell ≡ true
+    → AreListings types now (take i ms) → PutsMapping types now new i m.cell m.common_pins → AreListings types new (take (i + 1) ms)
+new_mapping types now new ms i m at fresh before step k t at_k bel cell =
+    step k t at_k bel cell ∙ ap (λ o. or_found o (nat_eq m.cell cell) (listed_in t bel i 0 m.common_pins)) (before k t at_k bel cell)
+    ∙ by (nat_eq m.cell cell) (is_new (map (λ x. x.cell) (take i ms)) cell) refl refl
+    ∙ sym (ap (listed_from t bel cell 0) (take_next ms i m at) ∙ from_push t bel cell 0 (take i ms) m ∙ ap (λ n. if is_new (map (λ x. x.cell) (take i ms)) cell then (if nat_eq m.cell cell then listed_in t bel n 0 m.common_pins else None) else listed_from t bel cell 0 (take i ms)) (let len = length_take ms i m at in omega arith))
+  where
+    kept : (o f : Option Listing) → or_found o false f ≡ o
+    kept None f = refl
+    kept (Some v) f = refl
+    by : (b c : Bool) → nat_eq m.cell cell ≡ b → is_new (map (λ x. x.cell) (take i ms)) cell ≡ c
+        → or_found (listed_from t bel cell 0 (take i ms)) b (listed_in t bel i 0 m.common_pins) ≡ (if c then (if b then listed_in t bel i 0 m.common_pins else None) else listed_from t bel cell 0 (take i ms))
+    by true true e n = ap (λ o. or_found o true (listed_in t bel i 0 m.common_pins)) (none_listed t bel cell 0 (take i ms) n)
+    by true false e n = absurd (true≢false (sym fresh ∙ ap (is_new (map (λ x. x.cell) (take i ms))) (eqb-true m.cell cell e) ∙ n))
+    by false true e n = kept (listed_from t bel cell 0 (take i ms)) (listed_in t bel i 0 m.common_pins) ∙ none_listed t bel cell 0 (take i ms) n
+    by false false e n = kept (listed_from t bel cell 0 (take i ms)) (listed_in t bel i 0 m.common_pins)
+
+-- another mapping of a cell type that has one is passed over
+pub old_mapping : (types : List SiteType) (now : FirstByKey Listing) (ms : List CellBelMapping) (i : ℕ) (m : CellBelMapping) → slice_get ms i ≡ Some m → is_new (map (λ x. x.cell) (take i ms)) m.cell ≡ false
+    → AreListings types now (take i ms) → AreListings types now (take (i + 1) ms)
+old_mapping types now ms i m at known before k t at_k bel cell =
+    before k t at_k bel cell
+    ∙ by (nat_eq m.cell cell) (is_new (map (λ x. x.cell) (take i ms)) cell) refl refl
+    ∙ sym (ap (listed_from t bel cell 0) (take_next ms i m at) ∙ from_push t bel cell 0 (take i ms) m)
+  where
+    by : (b c : Bool) → nat_eq m.cell cell ≡ b → is_new (map (λ x. x.cell) (take i ms)) cell ≡ c
+        → listed_from t bel cell 0 (take i ms) ≡ (if c then (if b then listed_in t bel (0 + length (take i ms)) 0 m.common_pins else None) else listed_from t bel cell 0 (take i ms))
+    by true true e n = absurd (true≢false (sym n ∙ sym (ap (is_new (map (λ x. x.cell) (take i ms))) (eqb-true m.cell cell e)) ∙ known))
+    by b false e n = refl
+    by false true e n = none_listed t bel cell 0 (take i ms) n

@@ -43,3 +43,18 @@ listed_in t bel mapping place (m ∷ ms) = if lists_bel t bel m then Some (listi
 abbrev pub listed_from : SiteType → (bel cell place : ℕ) → List CellBelMapping → Option Listing
 listed_from t bel cell place [] = None
 listed_from t bel cell place (m ∷ ms) = if nat_eq m.cell cell then listed_in t bel place 0 m.common_pins else listed_from t bel cell (place + 1) ms
+
+-- a listing that is there, or else one of this cell type
+abbrev pub or_found : Option Listing → Bool → Option Listing → Option Listing
+or_found (Some v) test found = Some v
+or_found None test found = if test then found else None
+
+-- what a cell type's pin maps put, the cell type having this place
+abbrev pub PutsMapping : List SiteType → (old new : FirstByKey Listing) → (place cell : ℕ) → List CommonCellBelPinMaps → Type 0
+PutsMapping types old new place cell maps =
+    (k : ℕ) (t : SiteType) → slice_get types k ≡ Some t → (bel q : ℕ) → value_at new (key k bel q) ≡ or_found (value_at old (key k bel q)) (nat_eq cell q) (listed_in t bel place 0 maps)
+
+-- the table lists what the mappings list
+abbrev pub AreListings : List SiteType → FirstByKey Listing → List CellBelMapping → Type 0
+AreListings types table mappings =
+    (k : ℕ) (t : SiteType) → slice_get types k ≡ Some t → (bel cell : ℕ) → value_at table (key k bel cell) ≡ listed_from t bel cell 0 mappings

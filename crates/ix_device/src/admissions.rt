@@ -9,14 +9,15 @@ ghost use Rattle.ix_device_rules.specs.Rules.{has_pin};
 ghost use Rattle.ix_device.specs.Lookups.{pin_of_bel};
 ghost use Rattle.ix_device.specs.Elements.{differ};
 ghost use Rattle.ix_device.specs.Admission.{pins_differ};
-ghost use Rattle.ix_device.specs.Listed.{listing, names_one, PutsMap};
+ghost use Rattle.ix_device.specs.Listed.{listing, names_one, PutsMap, PutsMapping, AreListings};
 ghost use Rattle.ix_device.specs.Premises.{TypesDiffer, FindPins};
 
+use crate::sites::number_of;
 use crate::type_tables::TypeTables;
 use ix_first::FirstByKey;
 use ix_keys::Key;
 use ix_num::{BelPinId, Memory, NameId, SiteTypeId};
-use ix_rec::{CellBelPinEntry, Items, SiteType, SiteTypeBelEntry};
+use ix_rec::{CellBelMapping, CellBelPinEntry, Items, SiteType, SiteTypeBelEntry};
 use std::alloc::Global;
 
 /// The first pin map that lists a BEL for a cell type.
@@ -180,4 +181,68 @@ fn put_map(
         put_entry(table, map, pins, entries.at(i), site_types, types, tables)?;
     }
     Ok(())
+}
+
+// Whether a pin map names no pin twice.
+fn pins_differ(alloc: Global, pins: &Items<CellBelPinEntry>) -> Result<bool, Memory>
+    ensures { IfOk result (λ yes. yes ≡ pins_differ pins.now) }
+{
+    if !cell_pins_differ(alloc, pins)? {
+        return Ok(false);
+    }
+    bel_pins_differ(alloc, pins)
+}
+
+// Puts the listings of a cell type's pin maps.
+fn put_mapping(
+    alloc: Global,
+    table: &mut FirstByKey<Listing>,
+    place: u32,
+    mapping: &CellBelMapping,
+    site_types: &FirstByKey<SiteTypeId>,
+    types: &Items<SiteType>,
+    tables: &Items<TypeTables>,
+) -> Result<(), Memory>
+    requires differ { TypesDiffer types.now }
+    requires named { (name : ℕ) → value_at site_types.now (name_key name) ≡ position (λ t. nat_eq t.name name) types.now }
+    requires find { FindPins types.now tables.now }
+    ensures { OnOk result (PutsMapping types.now table.old table.new place mapping.now.cell mapping.now.common_pins) }
+{
+    for i in 0..mapping.common_pins.len() {
+        let found = mapping.common_pins.at(i);
+        let map = PinMap {
+            cell: mapping.cell,
+            mapping: place,
+            pin_map: number_of(i)?,
+            differ: pins_differ(alloc, &found.pins)?,
+        };
+        put_map(table, &map, &found.pins, &found.site_types, site_types, types, tables)?;
+    }
+    Ok(())
+}
+
+/// The first pin map that lists each BEL for each cell type, under the site type's number, the BEL's name and the cell
+/// type's. Of several mappings of one cell type the first counts.
+pub(crate) fn listings(
+    alloc: Global,
+    mappings: &Items<CellBelMapping>,
+    site_types: &FirstByKey<SiteTypeId>,
+    types: &Items<SiteType>,
+    tables: &Items<TypeTables>,
+) -> Result<FirstByKey<Listing>, Memory>
+    requires differ { TypesDiffer types.now }
+    requires named { (name : ℕ) → value_at site_types.now (name_key name) ≡ position (λ t. nat_eq t.name name) types.now }
+    requires find { FindPins types.now tables.now }
+    ensures { IfOk result (λ table. AreListings types.now table mappings.now) }
+{
+    let mut seen = FirstByKey::new(alloc);
+    let mut table = FirstByKey::new(alloc);
+    for i in 0..mappings.len() {
+        let mapping = mappings.at(i);
+        let place = number_of(i)?;
+        if seen.put(Key::of_name(mapping.cell.get()), ())? {
+            put_mapping(alloc, &mut table, place, mapping, site_types, types, tables)?;
+        }
+    }
+    Ok(table)
 }

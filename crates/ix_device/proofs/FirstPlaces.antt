@@ -1,6 +1,6 @@
 -- The first place in a list, item by item.
 use Rattle.std.proofs.Common.{◌≡◌, ◌<◌, ◌≤◌, ◌⊎◌, inl, inr, refl, ap, sym, ◌∙◌, ℕ, suc, zero, ◌+◌, Bool, true, false, cond, not, nat_lt, List, [], ◌∷◌, ◌++◌, take, length, slice_get, Option, Some, None, option_map, is_some, ◌||◌, arith}
-use Rattle.std.specs.List.{position, position_or_len, list_any}
+use Rattle.std.specs.List.{find, position, position_or_len, list_any}
 use Rattle.std.proofs.lemmas.List.{length-take-le}
 use Rattle.std.proofs.lemmas.Bool.{lt-ltb, le-ltb, ltb-true, ltb-false}
 use Rattle.ix_first.specs.First.{or_later}
@@ -65,3 +65,29 @@ none-place p xs h = sym (is_some_position p xs) ∙ ap is_some h
 
 pub some-place : {X : Type 0} (p : X → Bool) (xs : List X) (i : ℕ) → position p xs ≡ Some i → list_any p xs ≡ true
 some-place p xs i h = sym (is_some_position p xs) ∙ ap is_some h
+
+-- what the first passing item gives, among one item more
+pub one_more_found : {X V : Type 0} (p : X → Bool) (f : X → V) (xs : List X) (i : ℕ) (x : X) → slice_get xs i ≡ Some x
+    → or_later (option_map f (find p (take i xs))) (p x) (f x) ≡ option_map f (find p (take (i + 1) xs))
+one_more_found {X} {V} p f xs i x at = sym (ap (λ l. option_map f (find p l)) (take_next xs i x at) ∙ pushed (take i xs))
+  where
+    pushed : (ys : List X) → option_map f (find p (ys ++ x ∷ [])) ≡ or_later (option_map f (find p ys)) (p x) (f x)
+    pushed [] = by (p x)
+      where
+        by : (b : Bool) → option_map f (cond b (Some x) None) ≡ or_later None b (f x)
+        by true = refl
+        by false = refl
+    pushed (y ∷ ys) = by (p y) (pushed ys)
+      where
+        by : (b : Bool) → option_map f (find p (ys ++ x ∷ [])) ≡ or_later (option_map f (find p ys)) (p x) (f x)
+            → option_map f (cond b (Some y) (find p (ys ++ x ∷ []))) ≡ or_later (option_map f (cond b (Some y) (find p ys))) (p x) (f x)
+        by true h = refl
+        by false h = h
+
+-- nothing more is found where the item doesn't pass
+pub none_more_found : {X V : Type 0} (p : X → Bool) (f : X → V) (xs : List X) (i : ℕ) (x : X) → slice_get xs i ≡ Some x → p x ≡ false → option_map f (find p (take i xs)) ≡ option_map f (find p (take (i + 1) xs))
+none_more_found p f xs i x at fails = sym (kept (option_map f (find p (take i xs))) (f x)) ∙ ap (λ b. or_later (option_map f (find p (take i xs))) b (f x)) (sym fails) ∙ one_more_found p f xs i x at
+  where
+    kept : {V : Type 0} (o : Option V) (v : V) → or_later o false v ≡ o
+    kept None v = refl
+    kept (Some w) v = refl

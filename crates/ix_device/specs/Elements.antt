@@ -25,10 +25,12 @@ abbrev pub is_by_parameter : LutEquation → Bool
 is_by_parameter InitParam = true
 is_by_parameter Invalid = false
 
--- A LUT cell of this name: its function is given by a parameter, and it has 1 to 6 inputs, which differ.
+-- A LUT cell counts where its function is given by a parameter and it has 1 to 6 inputs, which differ.
+abbrev pub counts_as_lut : LutCell → Bool
+counts_as_lut c = is_by_parameter c.equation && (nat_le 1 (length c.input_pins) && (nat_le (length c.input_pins) 6 && differ c.input_pins))
+
 abbrev pub is_lut_cell : ℕ → LutCell → Bool
-is_lut_cell cell c =
-    is_by_parameter c.equation && nat_eq c.cell cell && nat_le 1 (length c.input_pins) && nat_le (length c.input_pins) 6 && differ c.input_pins
+is_lut_cell cell c = nat_eq c.cell cell && counts_as_lut c
 
 -- how many inputs the LUT type of this name has; none where the type isn't one
 abbrev pub lut_inputs_of : DeviceRec → ℕ → Option ℕ

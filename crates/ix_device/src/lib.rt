@@ -2,6 +2,7 @@
 #![tactic(auto)]
 
 mod admissions;
+mod luts;
 mod names;
 mod sites;
 mod type_tables;

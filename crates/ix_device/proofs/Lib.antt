@@ -4,3 +4,4 @@ pub mod Listings
 pub mod SiteLemmas
 pub mod Walks
 pub mod WireLemmas
+pub mod TileWireLemmas

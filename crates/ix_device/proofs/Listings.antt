@@ -19,9 +19,9 @@ use Rattle.ix_device.specs.Premises.{TypesDiffer}
 use Rattle.ix_device.proofs.FirstPlaces.{none-place}
 use Rattle.ix_keys.specs.declared.key.Key.{Key}
 use Rattle.ix_keys.specs.Keys.{key, key_eq}
-use Rattle.ix_first.specs.First.{value_at, or_later}
+use Rattle.ix_first.specs.First.{value_at, or_later, or_found}
 use Rattle.ix_device.specs.declared.admissions.Listing.{Listing}
-use Rattle.ix_device.specs.Listed.{listing, names_one, entry_lists, PutsMap, PutsMapping, AreListings, listed_in, listed_from, or_found}
+use Rattle.ix_device.specs.Listed.{listing, names_one, entry_lists, PutsMap, PutsMapping, AreListings, listed_in, listed_from}
 use Rattle.ix_device.proofs.Walks.{any_next, take_next, length_take}
 use Rattle.ix_device.proofs.Differing.{nat_eq_sym}
 

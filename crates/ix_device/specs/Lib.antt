@@ -5,3 +5,4 @@ pub mod Sources
 pub mod Tables
 pub mod Listed
 pub mod Premises
+pub mod TileWires

@@ -4,7 +4,7 @@ use Rattle.std.specs.List.{list_any, list_all}
 use Rattle.ix_keys.specs.declared.key.Key.{Key}
 use Rattle.ix_keys.specs.Keys.{key}
 use Rattle.ix_first.specs.declared.by_key.FirstByKey.{FirstByKey}
-use Rattle.ix_first.specs.First.{value_at, or_later}
+use Rattle.ix_first.specs.First.{value_at, or_later, or_found}
 use Rattle.ix_rec.specs.declared.device.SiteTypeBelEntry.{SiteTypeBelEntry}
 use Rattle.ix_rec.specs.declared.device.CellBelPinEntry.{CellBelPinEntry}
 use Rattle.ix_device_rules.specs.Rules.{has_pin}
@@ -43,11 +43,6 @@ listed_in t bel mapping place (m ∷ ms) = if lists_bel t bel m then Some (listi
 abbrev pub listed_from : SiteType → (bel cell place : ℕ) → List CellBelMapping → Option Listing
 listed_from t bel cell place [] = None
 listed_from t bel cell place (m ∷ ms) = if nat_eq m.cell cell then listed_in t bel place 0 m.common_pins else listed_from t bel cell (place + 1) ms
-
--- a listing that is there, or else one of this cell type
-abbrev pub or_found : Option Listing → Bool → Option Listing → Option Listing
-or_found (Some v) test found = Some v
-or_found None test found = if test then found else None
 
 -- what a cell type's pin maps put, the cell type having this place
 abbrev pub PutsMapping : List SiteType → (old new : FirstByKey Listing) → (place cell : ℕ) → List CommonCellBelPinMaps → Type 0

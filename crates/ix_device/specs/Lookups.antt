@@ -67,3 +67,13 @@ site_pin_in name t = position (λ p. nat_eq p.name name) t.pins
 -- the site wire of a BEL pin
 abbrev pub wire_in : ℕ → SiteType → Option ℕ
 wire_in pin t = position (λ w. list_any (nat_eq pin) w.pins) t.site_wires
+
+-- Tile wires are told by their tile and their place in the tile's type.
+
+-- the place of a wire of this name in a tile type
+abbrev pub wire_of_type : ℕ → TileType → Option ℕ
+wire_of_type name ty = position (nat_eq name) ty.wires
+
+-- the tile wire of these names: its tile and its place
+abbrev pub tile_wire_named : DeviceRec → (tile wire : ℕ) → Option (ℕ × ℕ)
+tile_wire_named rec tile wire = option_and_then (λ i. option_map (λ w. (i, w)) (option_and_then (wire_of_type wire) (type_of_tile rec i))) (tile_named rec tile)

@@ -12,8 +12,7 @@ use Rattle.ix_rec.specs.declared.device.Tile.{Tile}
 use Rattle.ix_rec.specs.declared.device.TileType.{TileType}
 use Rattle.ix_rec.specs.declared.device.SiteConstantSource.{SiteConstantSource}
 use Rattle.ix_rec.specs.declared.device.NodeConstantSource.{NodeConstantSource}
-use Rattle.ix_device_rules.specs.Rules.{has_tile_wire}
-use Rattle.ix_device.specs.Lookups.{pin_of_bel}
+use Rattle.ix_device.specs.Lookups.{pin_of_bel, tile_wire_named}
 
 abbrev pub constant_of : ConstantPreference → Option Constant
 constant_of pref.NoPreference = None
@@ -53,7 +52,7 @@ tile_lists_constant rec c t = unwrap_or (option_map (lists_constant c) (slice_ge
 
 -- a node source is a tile wire with this constant
 abbrev pub is_source : DeviceRec → Constant → NodeConstantSource → Bool
-is_source rec c s = is_constant c s.constant && has_tile_wire rec s.tile s.wire
+is_source rec c s = is_constant c s.constant && is_some (tile_wire_named rec s.tile s.wire)
 
 abbrev pub node_sources_of : DeviceRec → List NodeConstantSource
 node_sources_of rec = unwrap_or (option_map (λ c. c.node_sources) rec.constants) []

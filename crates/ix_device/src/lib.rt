@@ -5,5 +5,6 @@ mod admissions;
 mod luts;
 mod names;
 mod sites;
+mod tile_wires;
 mod type_tables;
 mod types;

@@ -18,3 +18,8 @@ value_of table id = slice_get table.values.items id
 abbrev pub or_later : {V : Type 0} → Option V → Bool → V → Option V
 or_later (Some v) test later = Some v
 or_later None test later = if test then Some later else None
+
+-- a value that is there, or else one that may be found later where the test passes
+abbrev pub or_found : {V : Type 0} → Option V → Bool → Option V → Option V
+or_found (Some v) test found = Some v
+or_found None test found = if test then found else None

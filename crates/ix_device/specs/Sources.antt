@@ -11,6 +11,7 @@ use Rattle.ix_rec.specs.declared.device.SiteType.{SiteType}
 use Rattle.ix_rec.specs.declared.device.Tile.{Tile}
 use Rattle.ix_rec.specs.declared.device.TileType.{TileType}
 use Rattle.ix_rec.specs.declared.device.SiteConstantSource.{SiteConstantSource}
+use Rattle.ix_rec.specs.declared.device.WireConstantSources.{WireConstantSources}
 use Rattle.ix_rec.specs.declared.device.NodeConstantSource.{NodeConstantSource}
 use Rattle.ix_device.specs.Lookups.{pin_of_bel, tile_wire_named}
 
@@ -42,9 +43,12 @@ first_constant t pin (e ∷ es) = if_named (names_pin t pin e) (constant_of e.co
 abbrev pub site_source_in : DeviceRec → ℕ → SiteType → Option Constant
 site_source_in rec pin t = option_and_then (λ c. first_constant t pin c.site_sources) rec.constants
 
--- a tile type lists a wire with this constant
+-- an entry of a tile type lists a wire with this constant
+abbrev pub lists_here : Constant → WireConstantSources → Bool
+lists_here c s = is_constant c s.constant && nat_lt 0 (length s.wires)
+
 abbrev pub lists_constant : Constant → TileType → Bool
-lists_constant c ty = list_any (λ s. is_constant c s.constant && nat_lt 0 (length s.wires)) ty.constants
+lists_constant c ty = list_any (lists_here c) ty.constants
 
 -- a tile has a type that lists a wire with this constant
 abbrev pub tile_lists_constant : DeviceRec → Constant → Tile → Bool

@@ -2,6 +2,7 @@
 #![tactic(auto)]
 
 mod admissions;
+mod constants;
 mod luts;
 mod names;
 mod sites;

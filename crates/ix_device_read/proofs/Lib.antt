@@ -1,3 +1,6 @@
+pub mod Adding
+pub mod Bare
+pub mod Bound
 pub mod Each
 pub mod Flags
 pub mod Root

@@ -1,5 +1,6 @@
 pub mod Finish
 pub mod Numbers
+pub mod Premises
 pub mod Records
 pub mod Sizes
 pub mod Views

@@ -7,6 +7,7 @@ mod context;
 mod device;
 mod finish;
 mod inversion;
+mod laws;
 mod lists;
 mod lut;
 mod package;
@@ -18,4 +19,5 @@ mod tile_type;
 mod walk;
 
 pub use device::finish_device;
+pub use laws::finishing_is_reading;
 pub use stop::Stop;

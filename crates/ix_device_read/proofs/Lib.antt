@@ -1,6 +1,10 @@
 pub mod Adding
+pub mod Agreeing
 pub mod Bare
 pub mod Bound
+pub mod ByTable
 pub mod Each
 pub mod Flags
 pub mod Root
+pub mod Tallied
+pub mod Walked

@@ -1,4 +1,5 @@
 pub mod Finish
+pub mod Finishing
 pub mod Loose
 pub mod Numbers
 pub mod Premises

@@ -8,6 +8,7 @@ mod device;
 mod finish;
 mod intern;
 mod inversion;
+mod laws;
 mod lists;
 mod lut;
 mod lut_texts;
@@ -21,4 +22,5 @@ mod tile_type;
 mod walk;
 
 pub use device::finish_device;
+pub use laws::finishing_is_reading;
 pub use stop::Stop;

@@ -1,7 +1,7 @@
 -- Adding texts to the names, one after the other.
-use Rattle.std.proofs.Common.{◌≡◌, ◌≤◌, ◌<◌, ◌+◌, ◌-◌, ◌^◌, ◌⊎◌, inl, inr, ℕ, zero, suc, Bool, true, false, ◌||◌, true≢false, List, [], ◌∷◌, ◌++◌, length, take, drop, map, get_or, slice_get, Contains, refl, sym, ap, subst, ◌∙◌, arith, append_assoc, length-append, add-one, drop-cons}
-use Rattle.std.specs.Prelude.{Some, IsSome, Result, Ok, Err, IfOk, OnOk, OnErr, IsErr, option_map}
-use Rattle.std.specs.List.{AllByRecursion, flat_map, list_any, sum_by}
+use Rattle.std.proofs.Common.{◌≡◌, ◌≤◌, ◌<◌, ◌+◌, ◌-◌, ◌^◌, ◌⊎◌, inl, inr, ℕ, Bool, true, false, ◌||◌, List, [], ◌∷◌, ◌++◌, length, take, drop, map, slice_get, Contains, refl, sym, ap, subst, ◌∙◌, arith, length-append, add-one, drop-cons}
+use Rattle.std.specs.Prelude.{Some, Result, Ok, Err, IfOk, OnOk, OnErr, IsErr, option_map}
+use Rattle.std.specs.List.{AllByRecursion, flat_map, list_any}
 use Rattle.std.specs.Str.{bytes_eq}
 use Rattle.std.proofs.lemmas.Grind.{flat_map-append}
 use Rattle.std.proofs.lemmas.List.{append-nil, take-append-drop, take_more, take_all}
@@ -9,10 +9,10 @@ use Rattle.std.proofs.lemmas.List.Folds.{list_any-append}
 use Rattle.std.proofs.lemmas.List.Sums.{sum_by-append}
 use Rattle.std.proofs.lemmas.Option.{slice_get-get_or, slice_get_within, get_or_from_slice_get, slice_get-map}
 use Rattle.ix_message.specs.Shape.{Text}
-use Rattle.ix_strings.specs.Names.{has_name, number_of, with_name, KeepsNumbers}
-use Rattle.ix_strings.proofs.TableLemmas.{IsFound, IsFound-number_of, with_name-known, with_name-new, length-with_name, KeepsNumbers-with_name}
+use Rattle.ix_strings.specs.Names.{has_name, with_name, KeepsNumbers}
+use Rattle.ix_strings.proofs.TableLemmas.{IsFound-number_of, with_name-known, with_name-new, length-with_name, KeepsNumbers-with_name}
 use Rattle.ix_device_read.specs.Premises.{IsKnown}
-use Rattle.ix_device_read.specs.Loose.{paid_text, paid_texts, reach, HasRoom, Grows, Knows, Adds, AreNumbersOf}
+use Rattle.ix_device_read.specs.Loose.{paid_text, reach, HasRoom, Grows, Knows, Adds, AreNumbersOf}
 
 either : (b : Bool) → (b ≡ true) ⊎ (b ≡ false)
 either true = inl refl
@@ -35,7 +35,7 @@ reach_known names h = ap (λ (ns : List Text). length ns) (with_name-known names
 reach_new : (names : List Text) → has_name names [] ≡ false → reach names ≡ length names + 1
 reach_new names h = ap (λ (ns : List Text). length ns) (with_name-new names [] h) ∙ length-append names ([] ∷ [])
 
-reach_most : (names : List Text) → (length names ≤ reach names) × (reach names ≤ length names + 1)
+pub reach_most : (names : List Text) → (length names ≤ reach names) × (reach names ≤ length names + 1)
 reach_most names = length-with_name names []
 
 reach-push : (names : List Text) (t : Text) → reach (names ++ t ∷ []) ≤ reach names + 1

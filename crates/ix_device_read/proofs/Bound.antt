@@ -1,22 +1,21 @@
 -- What a reading takes from its budget: a word at least for each text that isn't empty, and one for each struct but those
 -- behind a struct's own pointer, which may be the default.
-use Rattle.std.proofs.Common.{◌≡◌, ◌≤◌, ◌<◌, ◌+◌, ◌-◌, ◌*◌, ◌^◌, ℕ, zero, suc, Bool, true, false, ◌&&◌, List, [], ◌∷◌, ◌++◌, length, Result, Ok, Err, refl, arith, mul-suc}
-use Rattle.std.specs.Prelude.{Option, Some, None, IfOk, if◌then◌else◌, nat_le, nat_lt, ◌==◌, max}
+use Rattle.std.proofs.Common.{◌≡◌, ◌≤◌, ◌<◌, ◌+◌, ◌-◌, ◌*◌, ℕ, zero, suc, Bool, true, false, ◌&&◌, List, [], ◌∷◌, ◌++◌, Result, Ok, Err, refl, arith, mul-suc}
+use Rattle.std.specs.Prelude.{Option, Some, None, IfOk, if◌then◌else◌, nat_le, nat_lt, ◌==◌}
 use Rattle.std.specs.List.{flat_map, sum_by}
 use Rattle.std.proofs.lemmas.Bool.{leb-true, eqb-true}
 use Rattle.std.proofs.lemmas.Bool.Decides.{nat_tests}
 use Rattle.std.proofs.lemmas.List.Sums.{sum_by-cons, sum_by-append}
 use Rattle.ix_num.specs.declared.fault.FrameRule.{FrameRule}
-use Rattle.ix_num.specs.declared.fault.FrameFault.{FrameFault}
 use Rattle.ix_frame.specs.Result.{◌>>=◌, unless}
 use Rattle.ix_frame.specs.Segments.{Segments, word_at, segment_at, has_words}
-use Rattle.ix_frame.specs.Target.{Pointed, Object, Elements, target, placed, struct_target, list_target, composite_target, list_words, kind_of, element_size_of, element_count_of, offset_of, data_words_of, pointer_words_of}
-use Rattle.ix_frame.specs.Objects.{charged, plain_cost, composite_cost, blamed, no_struct, no_elements, struct_found, struct_behind, elements_found, elements_behind, list_found, list_behind, text_of, text_found, text_behind, struct_at, elements_at, list_at, text_at, text_in, has_pointer, element_of, bytes_of, numbers_in, root_of, whole_budget}
-use Rattle.ix_message.specs.Shape.{Text, Field, Struct, Pointers, Branches, Value, Parts, struct_of, no_more, text, texts, numbers, struct, struct_or_none, boxed, structs, branches, string_table, unread, ends, branch}
+use Rattle.ix_frame.specs.Target.{Pointed, Object, Elements, target, placed, struct_target, list_target, composite_target, kind_of, element_size_of, element_count_of, offset_of, data_words_of, pointer_words_of}
+use Rattle.ix_frame.specs.Objects.{charged, plain_cost, composite_cost, blamed, struct_found, struct_behind, elements_found, elements_behind, list_found, list_behind, text_of, text_found, text_behind, struct_at, elements_at, list_at, text_at, text_in, has_pointer, element_of, bytes_of, root_of, whole_budget}
+use Rattle.ix_message.specs.Shape.{Text, Field, Struct, Pointers, Branches, Value, struct_of, no_more, text, texts, numbers, struct, struct_or_none, boxed, structs, branches, string_table, unread}
 use Rattle.ix_message.specs.Device.{device}
 use Rattle.ix_message.specs.Message.{numbers_in_segments}
 use Rattle.ix_message.specs.Names.{option_uses}
-use Rattle.ix_message.specs.Reading.{Reads, row_at, each_from, texts_from, texts_at, branches_from, some_of, value_at, parts_at, root_at, table_slot, pointers_of}
+use Rattle.ix_message.specs.Reading.{Reads, each_from, texts_from, texts_at, branches_from, some_of, value_at, parts_at, root_at, table_slot, pointers_of}
 use Rattle.ix_device_read.specs.Premises.{structs_in, parts_in, branches_in, if_there}
 use Rattle.ix_device_read.specs.Loose.{loose_texts, loose_parts, paid_text, paid_texts}
 

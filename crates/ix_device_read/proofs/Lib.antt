@@ -8,3 +8,4 @@ pub mod Flags
 pub mod Root
 pub mod Tallied
 pub mod Walked
+pub mod Whole

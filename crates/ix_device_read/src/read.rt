@@ -6,7 +6,9 @@ ghost use Rattle.ix_message.specs.Device.{device};
 ghost use Rattle.ix_strings.specs.Names.{KeepsNumbers};
 ghost use Rattle.ix_device_raw.specs.Raw.{device_numbers};
 ghost use Rattle.ix_device_read.specs.Loose.{loose_texts, Adds, AreNumbersOf, HasRoom};
-ghost use Rattle.ix_device_read.specs.Reading.{reading_in_segments, IsReading};
+ghost use Rattle.ix_device_read.specs.Numbers.{name_text};
+ghost use Rattle.ix_device_read.specs.Premises.{TextsKnown, structs_in};
+ghost use Rattle.ix_device_read.specs.Reading.{reading_in_segments, record_unless_bad, IsReading};
 ghost use Rattle.ix_device_read.specs.Records.{device_record};
 
 use crate::device::finish_device;
@@ -36,11 +38,47 @@ fn add_names(
     Ok(strings)
 }
 
-/// The fault of a reading that stopped.
-fn fault_of(stop: Stop) -> ReadFault {
-    match stop {
-        Stop::OutOfList(place) => ReadFault::Index(place),
-        Stop::Unnamed => ReadFault::Memory,
-        Stop::Memory => ReadFault::Memory,
+/// The record that a device's numbers make once its texts are names, or its first number that is out of its list.
+fn finish_named(
+    alloc: Global,
+    names: &Names,
+    strings: &[NameId],
+    raw: RawDevice<'_>,
+) -> Result<DeviceRec, ReadFault>
+    requires known { TextsKnown names.now device (device_numbers raw) }
+    requires few { structs_in device (device_numbers raw) < 2 ^ 32 - 1 }
+    ensures { IsReading (device_record names.now) result (record_unless_bad (map (name_text names.now) strings.now) device (device_numbers raw.entry)) }
+{
+    match finish_device(alloc, names, strings, raw) {
+        Ok(device) => Ok(device),
+        Err(Stop::OutOfList(place)) => Err(ReadFault::Index(place)),
+        Err(Stop::Memory) => Err(ReadFault::Memory),
+        Err(Stop::Unnamed) => unreachable!(),
     }
+}
+
+/// The record of a frame's device resources, whose texts are added to the names. Else the first rule that the whole frame
+/// breaks, in reading order, and after that the first index, enumerant or tag that is out of its list.
+///
+/// At most 2^28 + 66 names are added, also where there is no record, and each name keeps its number.
+pub fn read_device(
+    alloc: Global,
+    frame: &Frame<'_>,
+    names: &mut Names,
+) -> Result<DeviceRec, ReadFault>
+    requires { length names.old + 2 ^ 28 + 66 < 2 ^ 32 - 1 }
+    ensures reading { IsReading (device_record names.new) result (reading_in_segments device (segments_of frame.now)) }
+    ensures keeps { KeepsNumbers names.old names.new }
+    ensures most { length names.new ≤ length names.old + 2 ^ 28 + 66 }
+{
+    let raw = match read_raw_device(alloc, frame) {
+        Ok(raw) => raw,
+        Err(fault) => return Err(fault),
+    };
+    let strings = match add_names(alloc, &raw, names) {
+        Ok(strings) => strings,
+        Err(_) => return Err(ReadFault::Memory),
+    };
+    let Raw { table: _, root } = raw;
+    finish_named(alloc, names, strings.as_slice(), root)
 }

@@ -1,5 +1,4 @@
 use Rattle.std.proofs.Common.{◌∷◌, [], ◌≤◌, List, map, length, subst, sym, arith}
-use Rattle.std.specs.List.{flat_map}
 use Rattle.std.proofs.lemmas.List.{length-map}
 use Rattle.ix_message.specs.Shape.{Text}
 use Rattle.ix_device_read.specs.Loose.{HasRoom, Grows, Knows}

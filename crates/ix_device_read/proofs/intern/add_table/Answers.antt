@@ -1,8 +1,7 @@
-use Rattle.std.proofs.Common.{◌∷◌, [], ◌++◌, ◌+◌, ◌≡◌, ◌≤◌, List, map, take, length, subst, sym, arith}
-use Rattle.std.specs.List.{flat_map}
-use Rattle.std.proofs.lemmas.List.{length-map, take_all}
+use Rattle.std.proofs.Common.{◌∷◌, [], ◌+◌, ◌≤◌, List, map, take, length, subst, sym, arith}
+use Rattle.std.proofs.lemmas.List.{length-map}
 use Rattle.ix_message.specs.Shape.{Text}
-use Rattle.ix_device_read.specs.Loose.{HasRoom, Grows, Knows, AreNumbersOf}
+use Rattle.ix_device_read.specs.Loose.{HasRoom, Grows, Knows}
 use Rattle.ix_device_read.proofs.Adding.{item_room, item_added, item_stops, all_added, mapped_at, ones, taken_more, numbers_keep, numbers-push, front_added, adds_some}
 use Rattle.ix_device_read.proofs.intern.add_table.Goals as goal
 
@@ -27,8 +26,7 @@ pub loop-i-preserved : goal.loop-i-preserved
 loop-i-preserved c =
     let ts = map (λ t. t.now) c.args.table.now in
     let at = mapped_at (λ t. t.now) c.args.table.now c.loop-i.i c.at.result.now c.at.ensures in
-    let here = c.in-Ok.ensures.adds in
-    (
+    let here = c.in-Ok.ensures.adds in (
       item_added (λ t. t ∷ []) ts c.args.names.now c.loop-i.i c.at.result.now.now c.loop-i.names c.add_text.new.names at c.loop-i.invariant.0 here,
       rw (c.in_ok-push.ensures.ok, taken_more ts c.loop-i.i c.at.result.now.now at) (numbers-push c.add_text.new.names c.loop-i.found (take c.loop-i.i ts) c.in-Ok.id c.at.result.now.now (numbers_keep c.loop-i.names c.add_text.new.names here.grows.keeps c.loop-i.found (take c.loop-i.i ts) c.loop-i.invariant.1) c.in-Ok.ensures.number),
     )

@@ -1,4 +1,4 @@
-use Rattle.ix_device_read.proofs.Adding.{adds_by, room_add}
+use Rattle.ix_device_read.proofs.Adding.{adds_by}
 use Rattle.ix_device_read.proofs.intern.add_text.Goals as goal
 
 pub returns-clause-adds : goal.returns-clause-adds

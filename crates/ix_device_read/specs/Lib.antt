@@ -1,6 +1,7 @@
 pub mod Finish
 pub mod Finishing
 pub mod Loose
+pub mod Named
 pub mod Numbers
 pub mod Premises
 pub mod Reading

@@ -6,6 +6,7 @@ ghost use Rattle.ix_message.specs.Device.{device};
 ghost use Rattle.ix_strings.specs.Names.{KeepsNumbers};
 ghost use Rattle.ix_device_raw.specs.Raw.{device_numbers};
 ghost use Rattle.ix_device_read.specs.Loose.{loose_texts, Adds, AreNumbersOf, HasRoom};
+ghost use Rattle.ix_device_read.specs.Named.{limit, DeviceNamed};
 ghost use Rattle.ix_device_read.specs.Numbers.{name_text};
 ghost use Rattle.ix_device_read.specs.Premises.{TextsKnown, structs_in};
 ghost use Rattle.ix_device_read.specs.Reading.{reading_in_segments, record_unless_bad, IsReading};
@@ -47,7 +48,8 @@ fn finish_named(
 ) -> Result<DeviceRec, ReadFault>
     requires known { TextsKnown names.now device (device_numbers raw) }
     requires few { structs_in device (device_numbers raw) < 2 ^ 32 - 1 }
-    ensures { IsReading (device_record names.now) result (record_unless_bad (map (name_text names.now) strings.now) device (device_numbers raw.entry)) }
+    ensures reading { IsReading (device_record names.now) result (record_unless_bad (map (name_text names.now) strings.now) device (device_numbers raw.entry)) }
+    ensures named { IfOk result (DeviceNamed (limit strings.now names.now)) }
 {
     match finish_device(alloc, names, strings, raw) {
         Ok(device) => Ok(device),
@@ -68,6 +70,7 @@ pub fn read_device(
 ) -> Result<DeviceRec, ReadFault>
     requires { length names.old + 2 ^ 28 + 66 < 2 ^ 32 - 1 }
     ensures reading { IsReading (device_record names.new) result (reading_in_segments device (segments_of frame.now)) }
+    ensures named { IfOk result (DeviceNamed (length names.new)) }
     ensures keeps { KeepsNumbers names.old names.new }
     ensures most { length names.new ≤ length names.old + 2 ^ 28 + 66 }
 {

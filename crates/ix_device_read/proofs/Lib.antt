@@ -1,3 +1,12 @@
+pub mod Adding
+pub mod Agreeing
+pub mod Bare
+pub mod Bound
+pub mod ByTable
 pub mod Each
 pub mod Flags
+pub mod Naming
 pub mod Root
+pub mod Tallied
+pub mod Walked
+pub mod Whole

@@ -1,5 +1,10 @@
 pub mod Finish
+pub mod Finishing
+pub mod Loose
+pub mod Named
 pub mod Numbers
+pub mod Premises
+pub mod Reading
 pub mod Records
 pub mod Sizes
 pub mod Views

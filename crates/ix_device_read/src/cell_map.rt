@@ -14,6 +14,7 @@ impl Finish for RawSiteTypeBelEntry {
     ghost use Rattle.ix_message.specs.Device.{site_type_bel_entry};
     ghost use Rattle.ix_device_raw.specs.Raw.{site_type_bel_entry_numbers};
     ghost use Rattle.ix_device_read.specs.Records.{site_type_bel_entry_record};
+    ghost use Rattle.ix_device_read.specs.Named.{SiteTypeBelEntryNamed};
 
     type Part = SiteTypeBelEntry;
 
@@ -22,6 +23,8 @@ impl Finish for RawSiteTypeBelEntry {
     ghost numbers = { site_type_bel_entry_numbers };
 
     ghost record_by = { site_type_bel_entry_record };
+
+    ghost named = { SiteTypeBelEntryNamed };
 
     #[tactic(auto, unfolding(crate::specs::Finish::finish_at, crate::specs::Finish::finish_row))]
     fn finish(self, ctx: &Context<'_>, walk: &mut Walk) -> Result<SiteTypeBelEntry, Stop> {
@@ -37,6 +40,7 @@ impl Finish for RawCellBelPinEntry {
     ghost use Rattle.ix_message.specs.Device.{cell_bel_pin_entry};
     ghost use Rattle.ix_device_raw.specs.Raw.{cell_bel_pin_entry_numbers};
     ghost use Rattle.ix_device_read.specs.Records.{cell_bel_pin_entry_record};
+    ghost use Rattle.ix_device_read.specs.Named.{CellBelPinEntryNamed};
 
     type Part = CellBelPinEntry;
 
@@ -45,6 +49,8 @@ impl Finish for RawCellBelPinEntry {
     ghost numbers = { cell_bel_pin_entry_numbers };
 
     ghost record_by = { cell_bel_pin_entry_record };
+
+    ghost named = { CellBelPinEntryNamed };
 
     #[tactic(auto, unfolding(crate::specs::Finish::finish_at, crate::specs::Finish::finish_row))]
     fn finish(self, ctx: &Context<'_>, walk: &mut Walk) -> Result<CellBelPinEntry, Stop> {
@@ -60,6 +66,7 @@ impl Finish for RawCommonCellBelPinMaps {
     ghost use Rattle.ix_message.specs.Device.{common_cell_bel_pin_maps};
     ghost use Rattle.ix_device_raw.specs.Raw.{common_cell_bel_pin_maps_numbers};
     ghost use Rattle.ix_device_read.specs.Records.{common_cell_bel_pin_maps_record};
+    ghost use Rattle.ix_device_read.specs.Named.{CommonCellBelPinMapsNamed};
 
     type Part = CommonCellBelPinMaps;
 
@@ -68,6 +75,8 @@ impl Finish for RawCommonCellBelPinMaps {
     ghost numbers = { common_cell_bel_pin_maps_numbers };
 
     ghost record_by = { common_cell_bel_pin_maps_record };
+
+    ghost named = { CommonCellBelPinMapsNamed };
 
     #[tactic(auto, unfolding(crate::specs::Finish::finish_at, crate::specs::Finish::finish_row))]
     fn finish(self, ctx: &Context<'_>, walk: &mut Walk) -> Result<CommonCellBelPinMaps, Stop> {
@@ -84,6 +93,7 @@ impl Finish for RawCellBelMapping {
     ghost use Rattle.ix_message.specs.Device.{cell_bel_mapping};
     ghost use Rattle.ix_device_raw.specs.Raw.{cell_bel_mapping_numbers};
     ghost use Rattle.ix_device_read.specs.Records.{cell_bel_mapping_record};
+    ghost use Rattle.ix_device_read.specs.Named.{CellBelMappingNamed};
 
     type Part = CellBelMapping;
 
@@ -92,6 +102,8 @@ impl Finish for RawCellBelMapping {
     ghost numbers = { cell_bel_mapping_numbers };
 
     ghost record_by = { cell_bel_mapping_record };
+
+    ghost named = { CellBelMappingNamed };
 
     #[tactic(auto, unfolding(crate::specs::Finish::finish_at, crate::specs::Finish::finish_row))]
     fn finish(self, ctx: &Context<'_>, walk: &mut Walk) -> Result<CellBelMapping, Stop> {

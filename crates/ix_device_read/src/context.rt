@@ -5,6 +5,7 @@ ghost use Rattle.ix_message.specs.Shape.{name};
 ghost use Rattle.ix_message.specs.Names.{the_text, the_number};
 ghost use Rattle.ix_device_raw.specs.Raw.{bel_pin_numbers};
 ghost use Rattle.ix_device_read.specs.Finish.{asked_at, below, known};
+ghost use Rattle.ix_device_read.specs.Named.{limit_of};
 ghost use Rattle.ix_device_read.specs.Numbers.{name_text};
 ghost use Rattle.ix_device_read.specs.Views.{sizes_of, IsOutOfList, Meets};
 
@@ -112,7 +113,8 @@ impl<'n> Context<'n> {
         n: u32,
     ) -> Result<NameId, Stop>
         requires { place < KINDS }
-        ensures { Meets (λ id. the_text (name_text self.now.names.now id)) result (asked_at (sizes_of self.now) walk.now place kind.now field.now name n) }
+        ensures made { Meets (λ id. the_text (name_text self.now.names.now id)) result (asked_at (sizes_of self.now) walk.now place kind.now field.now name n) }
+        ensures within { IfOk result (λ id. id < limit_of self.now) }
     {
         if (n as usize) < self.strings.len() {
             Ok(self.strings[n as usize])
@@ -145,7 +147,8 @@ impl<'n> Context<'n> {
     /// The name that the text is.
     #[tactic(auto, using(std::proofs::lemmas::Option::get_or_from_slice_get))]
     pub fn text(&self, text: &str) -> Result<NameId, Stop>
-        ensures { Meets (name_text self.now.names.now) result (known (sizes_of self.now) text.now) }
+        ensures made { Meets (name_text self.now.names.now) result (known (sizes_of self.now) text.now) }
+        ensures within { IfOk result (λ id. id < limit_of self.now) }
     {
         match self.names.find(text) {
             Some(id) => Ok(id),

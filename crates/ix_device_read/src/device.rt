@@ -4,6 +4,7 @@ ghost use Rattle.std.specs.Prelude.{◌≡◌, map, length, IfOk};
 ghost use Rattle.ix_message.specs.Device.{device};
 ghost use Rattle.ix_device_raw.specs.Raw.{device_numbers, tile_type_numbers};
 ghost use Rattle.ix_device_read.specs.Finish.{finish_at};
+ghost use Rattle.ix_device_read.specs.Named.{limit, limit_of, DeviceNamed};
 ghost use Rattle.ix_device_read.specs.Numbers.{name_text};
 ghost use Rattle.ix_device_read.specs.Records.{device_record};
 ghost use Rattle.ix_device_read.specs.Sizes.{device_finished, device_sizes, site_type_count};
@@ -42,6 +43,7 @@ fn device_context<'n>(
     requires { tile_types.now ≡ map site_type_count (map tile_type_numbers raw.now.tile_type_list) }
     ensures sizes { sizes_of result ≡ device_sizes (map (name_text names.now) strings.now) names.now (device_numbers raw.now) }
     ensures names { result.names.now ≡ names.now }
+    ensures strings { result.strings.now ≡ strings.now }
 {
     Context {
         alloc,
@@ -59,7 +61,8 @@ fn device_context<'n>(
 /// The record that the numbers of a device make.
 #[tactic(auto, unfolding(crate::specs::Finish::finish_at, crate::specs::Finish::finish_row))]
 fn finish_root(raw: RawDevice<'_>, ctx: &Context<'_>, walk: &mut Walk) -> Result<DeviceRec, Stop>
-    ensures { MeetsWith (device_record ctx.now.names.now) result walk.new (finish_at device (sizes_of ctx.now) (device_numbers raw.entry) walk.old) }
+    ensures made { MeetsWith (device_record ctx.now.names.now) result walk.new (finish_at device (sizes_of ctx.now) (device_numbers raw.entry) walk.old) }
+    ensures named { IfOk result (DeviceNamed (limit_of ctx.now)) }
 {
     let RawDevice {
         name,
@@ -107,7 +110,8 @@ pub fn finish_device(
     strings: &[NameId],
     raw: RawDevice<'_>,
 ) -> Result<DeviceRec, Stop>
-    ensures { Meets (device_record names.now) result (device_finished (map (name_text names.now) strings.now) names.now (device_numbers raw.entry)) }
+    ensures made { Meets (device_record names.now) result (device_finished (map (name_text names.now) strings.now) names.now (device_numbers raw.entry)) }
+    ensures named { IfOk result (DeviceNamed (limit strings.now names.now)) }
 {
     let tile_types = site_type_counts(alloc, &raw.tile_type_list)?;
     let ctx = device_context(alloc, names, strings, &raw, tile_types.as_slice());

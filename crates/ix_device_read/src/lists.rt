@@ -1,9 +1,10 @@
 //! Lists of numbers and of texts.
 
-ghost use Rattle.std.specs.Prelude.{◌≡◌, ◌<◌, map};
+ghost use Rattle.std.specs.Prelude.{◌≡◌, ◌<◌, map, IfOk};
 ghost use Rattle.ix_message.specs.Shape.{name};
 ghost use Rattle.ix_message.specs.Names.{the_text, the_number};
 ghost use Rattle.ix_device_read.specs.Finish.{asked_at, below, known, each_alone};
+ghost use Rattle.ix_device_read.specs.Named.{limit_of, AllNamed};
 ghost use Rattle.ix_device_read.specs.Numbers.{name_text};
 ghost use Rattle.ix_device_read.specs.Views.{sizes_of, Meets};
 
@@ -23,7 +24,8 @@ pub fn names_of(
     list: &Items<u32>,
 ) -> Result<Items<NameId>, Stop>
     requires { place < KINDS }
-    ensures { Meets (map (λ id. the_text (name_text ctx.now.names.now id))) result (each_alone (asked_at (sizes_of ctx.now) walk.now place kind.now field.now name) list.now) }
+    ensures made { Meets (map (λ id. the_text (name_text ctx.now.names.now id))) result (each_alone (asked_at (sizes_of ctx.now) walk.now place kind.now field.now name) list.now) }
+    ensures named { IfOk result (AllNamed (limit_of ctx.now)) }
 {
     let mut found = Items::with_capacity(ctx.alloc, list.len())?;
     for i in 0..list.len() {
@@ -84,7 +86,8 @@ pub fn indexes(
 
 /// The names that the texts are.
 pub fn texts_of(ctx: &Context<'_>, list: &Items<&str>) -> Result<Items<NameId>, Stop>
-    ensures { Meets (map (name_text ctx.now.names.now)) result (each_alone (known (sizes_of ctx.now)) (map (λ t. t.now) list.now)) }
+    ensures made { Meets (map (name_text ctx.now.names.now)) result (each_alone (known (sizes_of ctx.now)) (map (λ t. t.now) list.now)) }
+    ensures named { IfOk result (AllNamed (limit_of ctx.now)) }
 {
     let mut found = Items::with_capacity(ctx.alloc, list.len())?;
     for i in 0..list.len() {

@@ -15,6 +15,7 @@ impl<'a> Finish for RawLutCell<'a> {
     ghost use Rattle.ix_message.specs.Device.{lut_cell};
     ghost use Rattle.ix_device_raw.specs.Raw.{lut_cell_numbers};
     ghost use Rattle.ix_device_read.specs.Records.{lut_cell_record};
+    ghost use Rattle.ix_device_read.specs.Named.{LutCellNamed};
 
     type Part = LutCell;
 
@@ -23,6 +24,8 @@ impl<'a> Finish for RawLutCell<'a> {
     ghost numbers = { lut_cell_numbers };
 
     ghost record_by = { lut_cell_record };
+
+    ghost named = { LutCellNamed };
 
     #[tactic(auto, unfolding(crate::specs::Finish::finish_at, crate::specs::Finish::finish_row))]
     fn finish(self, ctx: &Context<'_>, walk: &mut Walk) -> Result<LutCell, Stop> {
@@ -50,6 +53,7 @@ impl<'a> Finish for RawLutBel<'a> {
     ghost use Rattle.ix_message.specs.Device.{lut_bel};
     ghost use Rattle.ix_device_raw.specs.Raw.{lut_bel_numbers};
     ghost use Rattle.ix_device_read.specs.Records.{lut_bel_record};
+    ghost use Rattle.ix_device_read.specs.Named.{LutBelNamed};
 
     type Part = LutBel;
 
@@ -58,6 +62,8 @@ impl<'a> Finish for RawLutBel<'a> {
     ghost numbers = { lut_bel_numbers };
 
     ghost record_by = { lut_bel_record };
+
+    ghost named = { LutBelNamed };
 
     #[tactic(auto, unfolding(crate::specs::Finish::finish_at, crate::specs::Finish::finish_row))]
     fn finish(self, ctx: &Context<'_>, walk: &mut Walk) -> Result<LutBel, Stop> {
@@ -86,6 +92,7 @@ impl<'a> Finish for RawLutElement<'a> {
     ghost use Rattle.ix_message.specs.Device.{lut_element};
     ghost use Rattle.ix_device_raw.specs.Raw.{lut_element_numbers};
     ghost use Rattle.ix_device_read.specs.Records.{lut_element_record};
+    ghost use Rattle.ix_device_read.specs.Named.{LutElementNamed};
 
     type Part = LutElement;
 
@@ -94,6 +101,8 @@ impl<'a> Finish for RawLutElement<'a> {
     ghost numbers = { lut_element_numbers };
 
     ghost record_by = { lut_element_record };
+
+    ghost named = { LutElementNamed };
 
     #[tactic(auto, unfolding(crate::specs::Finish::finish_at, crate::specs::Finish::finish_row))]
     fn finish(self, ctx: &Context<'_>, walk: &mut Walk) -> Result<LutElement, Stop> {
@@ -109,6 +118,7 @@ impl<'a> Finish for RawSiteTypeLutElements<'a> {
     ghost use Rattle.ix_message.specs.Device.{site_type_lut_elements};
     ghost use Rattle.ix_device_raw.specs.Raw.{site_type_lut_elements_numbers};
     ghost use Rattle.ix_device_read.specs.Records.{site_type_lut_elements_record};
+    ghost use Rattle.ix_device_read.specs.Named.{SiteTypeLutElementsNamed};
 
     type Part = SiteTypeLutElements;
 
@@ -117,6 +127,8 @@ impl<'a> Finish for RawSiteTypeLutElements<'a> {
     ghost numbers = { site_type_lut_elements_numbers };
 
     ghost record_by = { site_type_lut_elements_record };
+
+    ghost named = { SiteTypeLutElementsNamed };
 
     #[tactic(auto, unfolding(crate::specs::Finish::finish_at, crate::specs::Finish::finish_row))]
     fn finish(self, ctx: &Context<'_>, walk: &mut Walk) -> Result<SiteTypeLutElements, Stop> {
@@ -133,6 +145,7 @@ impl<'a> Finish for RawLutDefinitions<'a> {
     ghost use Rattle.ix_message.specs.Device.{lut_definitions};
     ghost use Rattle.ix_device_raw.specs.Raw.{lut_definitions_numbers};
     ghost use Rattle.ix_device_read.specs.Records.{lut_definitions_record};
+    ghost use Rattle.ix_device_read.specs.Named.{LutDefinitionsNamed};
 
     type Part = LutDefinitions;
 
@@ -141,6 +154,8 @@ impl<'a> Finish for RawLutDefinitions<'a> {
     ghost numbers = { lut_definitions_numbers };
 
     ghost record_by = { lut_definitions_record };
+
+    ghost named = { LutDefinitionsNamed };
 
     #[tactic(auto, unfolding(crate::specs::Finish::finish_at, crate::specs::Finish::finish_row))]
     fn finish(self, ctx: &Context<'_>, walk: &mut Walk) -> Result<LutDefinitions, Stop> {

@@ -15,6 +15,7 @@ impl Finish for RawPackagePin {
     ghost use Rattle.ix_message.specs.Device.{package_pin};
     ghost use Rattle.ix_device_raw.specs.Raw.{package_pin_numbers};
     ghost use Rattle.ix_device_read.specs.Records.{package_pin_record};
+    ghost use Rattle.ix_device_read.specs.Named.{PackagePinNamed};
 
     type Part = PackagePin;
 
@@ -23,6 +24,8 @@ impl Finish for RawPackagePin {
     ghost numbers = { package_pin_numbers };
 
     ghost record_by = { package_pin_record };
+
+    ghost named = { PackagePinNamed };
 
     #[tactic(auto, unfolding(crate::specs::Finish::finish_at, crate::specs::Finish::finish_row))]
     fn finish(self, ctx: &Context<'_>, walk: &mut Walk) -> Result<PackagePin, Stop> {
@@ -42,6 +45,7 @@ impl Finish for RawPackage {
     ghost use Rattle.ix_message.specs.Device.{package_of_pins};
     ghost use Rattle.ix_device_raw.specs.Raw.{package_of_pins_numbers};
     ghost use Rattle.ix_device_read.specs.Records.{package_of_pins_record};
+    ghost use Rattle.ix_device_read.specs.Named.{PackageNamed};
 
     type Part = Package;
 
@@ -50,6 +54,8 @@ impl Finish for RawPackage {
     ghost numbers = { package_of_pins_numbers };
 
     ghost record_by = { package_of_pins_record };
+
+    ghost named = { PackageNamed };
 
     #[tactic(auto, unfolding(crate::specs::Finish::finish_at, crate::specs::Finish::finish_row))]
     fn finish(self, ctx: &Context<'_>, walk: &mut Walk) -> Result<Package, Stop> {
@@ -66,6 +72,7 @@ impl Finish for RawSiteConstantSource {
     ghost use Rattle.ix_message.specs.Device.{site_constant_source};
     ghost use Rattle.ix_device_raw.specs.Raw.{site_constant_source_numbers};
     ghost use Rattle.ix_device_read.specs.Records.{site_constant_source_record};
+    ghost use Rattle.ix_device_read.specs.Named.{SiteConstantSourceNamed};
 
     type Part = SiteConstantSource;
 
@@ -74,6 +81,8 @@ impl Finish for RawSiteConstantSource {
     ghost numbers = { site_constant_source_numbers };
 
     ghost record_by = { site_constant_source_record };
+
+    ghost named = { SiteConstantSourceNamed };
 
     #[tactic(auto, unfolding(crate::specs::Finish::finish_at, crate::specs::Finish::finish_row))]
     fn finish(self, ctx: &Context<'_>, walk: &mut Walk) -> Result<SiteConstantSource, Stop> {
@@ -101,6 +110,7 @@ impl Finish for RawNodeConstantSource {
     ghost use Rattle.ix_message.specs.Device.{node_constant_source};
     ghost use Rattle.ix_device_raw.specs.Raw.{node_constant_source_numbers};
     ghost use Rattle.ix_device_read.specs.Records.{node_constant_source_record};
+    ghost use Rattle.ix_device_read.specs.Named.{NodeConstantSourceNamed};
 
     type Part = NodeConstantSource;
 
@@ -109,6 +119,8 @@ impl Finish for RawNodeConstantSource {
     ghost numbers = { node_constant_source_numbers };
 
     ghost record_by = { node_constant_source_record };
+
+    ghost named = { NodeConstantSourceNamed };
 
     #[tactic(auto, unfolding(crate::specs::Finish::finish_at, crate::specs::Finish::finish_row))]
     fn finish(self, ctx: &Context<'_>, walk: &mut Walk) -> Result<NodeConstantSource, Stop> {
@@ -133,6 +145,7 @@ impl Finish for RawConstants {
     ghost use Rattle.ix_message.specs.Device.{constant_cells};
     ghost use Rattle.ix_device_raw.specs.Raw.{constant_cells_numbers};
     ghost use Rattle.ix_device_read.specs.Records.{constant_cells_record};
+    ghost use Rattle.ix_device_read.specs.Named.{ConstantsNamed};
 
     type Part = Constants;
 
@@ -141,6 +154,8 @@ impl Finish for RawConstants {
     ghost numbers = { constant_cells_numbers };
 
     ghost record_by = { constant_cells_record };
+
+    ghost named = { ConstantsNamed };
 
     #[tactic(auto, unfolding(crate::specs::Finish::finish_at, crate::specs::Finish::finish_row))]
     fn finish(self, ctx: &Context<'_>, walk: &mut Walk) -> Result<Constants, Stop> {

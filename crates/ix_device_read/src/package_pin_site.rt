@@ -1,7 +1,8 @@
 //! The site of a package pin.
 
-ghost use Rattle.std.specs.Prelude.{◌≡◌};
+ghost use Rattle.std.specs.Prelude.{◌≡◌, IfOk};
 ghost use Rattle.ix_device_read.specs.Finish.{site_asked};
+ghost use Rattle.ix_device_read.specs.Named.{limit_of, PinSiteNamed};
 ghost use Rattle.ix_device_read.specs.Numbers.{site_data};
 ghost use Rattle.ix_device_read.specs.Views.{sizes_of, Meets};
 
@@ -18,7 +19,8 @@ pub fn package_pin_site(
     tag: u16,
     site: u32,
 ) -> Result<PackagePinSite, Stop>
-    ensures { Meets (site_data ctx.now.names.now) result (site_asked (sizes_of ctx.now) walk.now tag site) }
+    ensures made { Meets (site_data ctx.now.names.now) result (site_asked (sizes_of ctx.now) walk.now tag site) }
+    ensures named { IfOk result (PinSiteNamed (limit_of ctx.now)) }
 {
     match tag {
         0 => Ok(PackagePinSite::NoSite),

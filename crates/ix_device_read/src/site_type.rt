@@ -15,6 +15,7 @@ impl Finish for RawBelPin {
     ghost use Rattle.ix_message.specs.Device.{bel_pin};
     ghost use Rattle.ix_device_raw.specs.Raw.{bel_pin_numbers};
     ghost use Rattle.ix_device_read.specs.Records.{bel_pin_record};
+    ghost use Rattle.ix_device_read.specs.Named.{BelPinNamed};
 
     type Part = BelPin;
 
@@ -23,6 +24,8 @@ impl Finish for RawBelPin {
     ghost numbers = { bel_pin_numbers };
 
     ghost record_by = { bel_pin_record };
+
+    ghost named = { BelPinNamed };
 
     #[tactic(auto, unfolding(crate::specs::Finish::finish_at, crate::specs::Finish::finish_row))]
     fn finish(self, ctx: &Context<'_>, walk: &mut Walk) -> Result<BelPin, Stop> {
@@ -39,6 +42,7 @@ impl Finish for RawSitePin {
     ghost use Rattle.ix_message.specs.Device.{site_pin};
     ghost use Rattle.ix_device_raw.specs.Raw.{site_pin_numbers};
     ghost use Rattle.ix_device_read.specs.Records.{site_pin_record};
+    ghost use Rattle.ix_device_read.specs.Named.{SitePinNamed};
 
     type Part = SitePin;
 
@@ -47,6 +51,8 @@ impl Finish for RawSitePin {
     ghost numbers = { site_pin_numbers };
 
     ghost record_by = { site_pin_record };
+
+    ghost named = { SitePinNamed };
 
     #[tactic(auto, unfolding(crate::specs::Finish::finish_at, crate::specs::Finish::finish_row))]
     fn finish(self, ctx: &Context<'_>, walk: &mut Walk) -> Result<SitePin, Stop> {
@@ -67,6 +73,7 @@ impl Finish for RawBel {
     ghost use Rattle.ix_message.specs.Device.{bel};
     ghost use Rattle.ix_device_raw.specs.Raw.{bel_numbers};
     ghost use Rattle.ix_device_read.specs.Records.{bel_record};
+    ghost use Rattle.ix_device_read.specs.Named.{BelNamed};
 
     type Part = Bel;
 
@@ -75,6 +82,8 @@ impl Finish for RawBel {
     ghost numbers = { bel_numbers };
 
     ghost record_by = { bel_record };
+
+    ghost named = { BelNamed };
 
     #[tactic(auto, unfolding(crate::specs::Finish::finish_at, crate::specs::Finish::finish_row))]
     fn finish(self, ctx: &Context<'_>, walk: &mut Walk) -> Result<Bel, Stop> {
@@ -101,6 +110,7 @@ impl Finish for RawSitePip {
     ghost use Rattle.ix_message.specs.Device.{site_pip};
     ghost use Rattle.ix_device_raw.specs.Raw.{site_pip_numbers};
     ghost use Rattle.ix_device_read.specs.Records.{site_pip_record};
+    ghost use Rattle.ix_device_read.specs.Named.{NoNames};
 
     type Part = SitePip;
 
@@ -109,6 +119,8 @@ impl Finish for RawSitePip {
     ghost numbers = { site_pip_numbers };
 
     ghost record_by = { site_pip_record };
+
+    ghost named = { NoNames };
 
     #[tactic(auto, unfolding(crate::specs::Finish::finish_at, crate::specs::Finish::finish_row))]
     fn finish(self, ctx: &Context<'_>, walk: &mut Walk) -> Result<SitePip, Stop> {
@@ -127,6 +139,7 @@ impl Finish for RawSiteWire {
     ghost use Rattle.ix_message.specs.Device.{site_wire};
     ghost use Rattle.ix_device_raw.specs.Raw.{site_wire_numbers};
     ghost use Rattle.ix_device_read.specs.Records.{site_wire_record};
+    ghost use Rattle.ix_device_read.specs.Named.{SiteWireNamed};
 
     type Part = SiteWire;
 
@@ -135,6 +148,8 @@ impl Finish for RawSiteWire {
     ghost numbers = { site_wire_numbers };
 
     ghost record_by = { site_wire_record };
+
+    ghost named = { SiteWireNamed };
 
     #[tactic(auto, unfolding(crate::specs::Finish::finish_at, crate::specs::Finish::finish_row))]
     fn finish(self, ctx: &Context<'_>, walk: &mut Walk) -> Result<SiteWire, Stop> {
@@ -150,6 +165,7 @@ impl Finish for RawSiteType {
     ghost use Rattle.ix_message.specs.Device.{site_type};
     ghost use Rattle.ix_device_raw.specs.Raw.{site_type_numbers};
     ghost use Rattle.ix_device_read.specs.Records.{site_type_record};
+    ghost use Rattle.ix_device_read.specs.Named.{SiteTypeNamed};
 
     type Part = SiteType;
 
@@ -158,6 +174,8 @@ impl Finish for RawSiteType {
     ghost numbers = { site_type_numbers };
 
     ghost record_by = { site_type_record };
+
+    ghost named = { SiteTypeNamed };
 
     #[tactic(auto, unfolding(crate::specs::Finish::finish_at, crate::specs::Finish::finish_row))]
     fn finish(self, ctx: &Context<'_>, walk: &mut Walk) -> Result<SiteType, Stop> {

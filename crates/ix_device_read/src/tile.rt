@@ -12,6 +12,7 @@ impl Finish for RawSite {
     ghost use Rattle.ix_message.specs.Device.{site};
     ghost use Rattle.ix_device_raw.specs.Raw.{site_numbers};
     ghost use Rattle.ix_device_read.specs.Records.{site_record};
+    ghost use Rattle.ix_device_read.specs.Named.{SiteNamed};
 
     type Part = Site;
 
@@ -20,6 +21,8 @@ impl Finish for RawSite {
     ghost numbers = { site_numbers };
 
     ghost record_by = { site_record };
+
+    ghost named = { SiteNamed };
 
     #[tactic(auto, unfolding(crate::specs::Finish::finish_at, crate::specs::Finish::finish_row))]
     fn finish(self, ctx: &Context<'_>, walk: &mut Walk) -> Result<Site, Stop> {
@@ -35,6 +38,7 @@ impl Finish for RawTile {
     ghost use Rattle.ix_message.specs.Device.{tile};
     ghost use Rattle.ix_device_raw.specs.Raw.{tile_numbers};
     ghost use Rattle.ix_device_read.specs.Records.{tile_record};
+    ghost use Rattle.ix_device_read.specs.Named.{TileNamed};
 
     type Part = Tile;
 
@@ -43,6 +47,8 @@ impl Finish for RawTile {
     ghost numbers = { tile_numbers };
 
     ghost record_by = { tile_record };
+
+    ghost named = { TileNamed };
 
     #[tactic(auto, unfolding(crate::specs::Finish::finish_at, crate::specs::Finish::finish_row))]
     fn finish(self, ctx: &Context<'_>, walk: &mut Walk) -> Result<Tile, Stop> {
@@ -72,6 +78,7 @@ impl Finish for RawWire {
     ghost use Rattle.ix_message.specs.Device.{wire};
     ghost use Rattle.ix_device_raw.specs.Raw.{wire_numbers};
     ghost use Rattle.ix_device_read.specs.Records.{wire_record};
+    ghost use Rattle.ix_device_read.specs.Named.{WireNamed};
 
     type Part = Wire;
 
@@ -80,6 +87,8 @@ impl Finish for RawWire {
     ghost numbers = { wire_numbers };
 
     ghost record_by = { wire_record };
+
+    ghost named = { WireNamed };
 
     #[tactic(auto, unfolding(crate::specs::Finish::finish_at, crate::specs::Finish::finish_row))]
     fn finish(self, ctx: &Context<'_>, walk: &mut Walk) -> Result<Wire, Stop> {
@@ -95,6 +104,7 @@ impl Finish for RawNode {
     ghost use Rattle.ix_message.specs.Device.{node};
     ghost use Rattle.ix_device_raw.specs.Raw.{node_numbers};
     ghost use Rattle.ix_device_read.specs.Records.{node_record};
+    ghost use Rattle.ix_device_read.specs.Named.{NoNames};
 
     type Part = Node;
 
@@ -103,6 +113,8 @@ impl Finish for RawNode {
     ghost numbers = { node_numbers };
 
     ghost record_by = { node_record };
+
+    ghost named = { NoNames };
 
     #[tactic(auto, unfolding(crate::specs::Finish::finish_at, crate::specs::Finish::finish_row))]
     fn finish(self, ctx: &Context<'_>, walk: &mut Walk) -> Result<Node, Stop> {

@@ -14,6 +14,7 @@ impl Finish for RawSiteTypeInTileType {
     ghost use Rattle.ix_message.specs.Device.{site_type_in_tile_type};
     ghost use Rattle.ix_device_raw.specs.Raw.{site_type_in_tile_type_numbers};
     ghost use Rattle.ix_device_read.specs.Records.{site_type_in_tile_type_record};
+    ghost use Rattle.ix_device_read.specs.Named.{SiteTypeInTileTypeNamed};
 
     type Part = SiteTypeInTileType;
 
@@ -22,6 +23,8 @@ impl Finish for RawSiteTypeInTileType {
     ghost numbers = { site_type_in_tile_type_numbers };
 
     ghost record_by = { site_type_in_tile_type_record };
+
+    ghost named = { SiteTypeInTileTypeNamed };
 
     #[tactic(auto, unfolding(crate::specs::Finish::finish_at, crate::specs::Finish::finish_row))]
     fn finish(self, ctx: &Context<'_>, walk: &mut Walk) -> Result<SiteTypeInTileType, Stop> {
@@ -57,6 +60,7 @@ impl Finish for RawPip {
     ghost use Rattle.ix_message.specs.Device.{pip};
     ghost use Rattle.ix_device_raw.specs.Raw.{pip_numbers};
     ghost use Rattle.ix_device_read.specs.Records.{pip_record};
+    ghost use Rattle.ix_device_read.specs.Named.{NoNames};
 
     type Part = Pip;
 
@@ -65,6 +69,8 @@ impl Finish for RawPip {
     ghost numbers = { pip_numbers };
 
     ghost record_by = { pip_record };
+
+    ghost named = { NoNames };
 
     #[tactic(auto, using(crate::proofs::Flags::flag_again), unfolding(crate::specs::Finish::finish_at, crate::specs::Finish::finish_row))]
     fn finish(self, ctx: &Context<'_>, walk: &mut Walk) -> Result<Pip, Stop> {
@@ -91,6 +97,7 @@ impl Finish for RawWireConstantSources {
     ghost use Rattle.ix_message.specs.Device.{wire_constant_sources};
     ghost use Rattle.ix_device_raw.specs.Raw.{wire_constant_sources_numbers};
     ghost use Rattle.ix_device_read.specs.Records.{wire_constant_sources_record};
+    ghost use Rattle.ix_device_read.specs.Named.{NoNames};
 
     type Part = WireConstantSources;
 
@@ -99,6 +106,8 @@ impl Finish for RawWireConstantSources {
     ghost numbers = { wire_constant_sources_numbers };
 
     ghost record_by = { wire_constant_sources_record };
+
+    ghost named = { NoNames };
 
     #[tactic(auto, unfolding(crate::specs::Finish::finish_at, crate::specs::Finish::finish_row))]
     fn finish(self, ctx: &Context<'_>, walk: &mut Walk) -> Result<WireConstantSources, Stop> {
@@ -122,6 +131,7 @@ impl Finish for RawTileType {
     ghost use Rattle.ix_message.specs.Device.{tile_type};
     ghost use Rattle.ix_device_raw.specs.Raw.{tile_type_numbers};
     ghost use Rattle.ix_device_read.specs.Records.{tile_type_record};
+    ghost use Rattle.ix_device_read.specs.Named.{TileTypeNamed};
 
     type Part = TileType;
 
@@ -130,6 +140,8 @@ impl Finish for RawTileType {
     ghost numbers = { tile_type_numbers };
 
     ghost record_by = { tile_type_record };
+
+    ghost named = { TileTypeNamed };
 
     #[tactic(auto, unfolding(crate::specs::Finish::finish_at, crate::specs::Finish::finish_row))]
     fn finish(self, ctx: &Context<'_>, walk: &mut Walk) -> Result<TileType, Stop> {

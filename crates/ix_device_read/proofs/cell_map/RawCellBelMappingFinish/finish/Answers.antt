@@ -4,14 +4,20 @@ use Rattle.ix_device_read.specs.Finish.{finish_at, finish_row}
 use Rattle.ix_device_read.proofs.Each.{stops_first}
 use Rattle.ix_device_read.proofs.cell_map.RawCellBelMappingFinish.finish.Goals as goal
 
-pub returns-in_err-common_pins : goal.returns-in_err-common_pins
+pub returns-in_err-common_pins-clause-made : goal.returns-in_err-common_pins-clause-made
 unfolding finish_at finish_row
-returns-in_err-common_pins c =
+returns-in_err-common_pins-clause-made c =
     let p = err_from_is_err_and c.from_residual-in_err-common_pins.result c.from_residual-in_err-common_pins.ensures.1 in
-    rw (p.1, p.2, ← c.begin.ensures, c.in_ok-cell.ensures) (stops_first c.in_err-common_pins.field-0.0 _ _ (stops_first c.in_err-common_pins.field-0.0 _ _ (rw c.inside-inner.ensures at c.in_err-common_pins.ensures)))
+    rw (p.1, p.2, ← c.begin.ensures, c.in_ok-cell.ensures.made) (stops_first c.in_err-common_pins.field-0.0 _ _ (stops_first c.in_err-common_pins.field-0.0 _ _ (rw c.inside-inner.ensures at c.in_err-common_pins.ensures.made)))
 
-pub returns : goal.returns
+pub returns-clause-made : goal.returns-clause-made
 unfolding finish_at finish_row
-returns c =
-    let h0 = rw c.inside-inner.ensures at c.in_ok-common_pins.ensures in
-    rw (← c.begin.ensures, c.in_ok-cell.ensures, h0) refl
+returns-clause-made c =
+    let h0 = rw c.inside-inner.ensures at c.in_ok-common_pins.ensures.made in
+    rw (← c.begin.ensures, c.in_ok-cell.ensures.made, h0) refl
+
+pub returns-clause-named : goal.returns-clause-named
+returns-clause-named c = record {
+  cell = c.in_ok-cell.ensures.within;
+  common_pins = rw c.inside-inner.ensures at c.in_ok-common_pins.ensures.named;
+}

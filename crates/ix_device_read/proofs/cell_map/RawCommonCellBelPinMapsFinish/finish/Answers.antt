@@ -4,16 +4,22 @@ use Rattle.ix_device_read.specs.Finish.{finish_at, finish_row}
 use Rattle.ix_device_read.proofs.Each.{stops_first}
 use Rattle.ix_device_read.proofs.cell_map.RawCommonCellBelPinMapsFinish.finish.Goals as goal
 
-pub returns-in_err-pins : goal.returns-in_err-pins
+pub returns-in_err-pins-clause-made : goal.returns-in_err-pins-clause-made
 unfolding finish_at finish_row
-returns-in_err-pins c =
+returns-in_err-pins-clause-made c =
     let p = err_from_is_err_and c.from_residual-in_err-pins.result c.from_residual-in_err-pins.ensures.1 in
-    let h0 = rw c.inside-inner.ensures at c.in_ok-site_types.ensures in
-    rw (p.1, p.2, ← c.begin.ensures, h0) (stops_first c.in_err-pins.field-0.0 _ _ (stops_first c.in_err-pins.field-0.0 _ _ (stops_first c.in_err-pins.field-0.0 _ _ (rw c.inside-inner.ensures at c.in_err-pins.ensures))))
+    let h0 = rw c.inside-inner.ensures at c.in_ok-site_types.ensures.made in
+    rw (p.1, p.2, ← c.begin.ensures, h0) (stops_first c.in_err-pins.field-0.0 _ _ (stops_first c.in_err-pins.field-0.0 _ _ (stops_first c.in_err-pins.field-0.0 _ _ (rw c.inside-inner.ensures at c.in_err-pins.ensures.made))))
 
-pub returns : goal.returns
+pub returns-clause-made : goal.returns-clause-made
 unfolding finish_at finish_row
-returns c =
-    let h0 = rw c.inside-inner.ensures at c.in_ok-site_types.ensures in
-    let h1 = rw c.inside-inner.ensures at c.in_ok-pins.ensures in
+returns-clause-made c =
+    let h0 = rw c.inside-inner.ensures at c.in_ok-site_types.ensures.made in
+    let h1 = rw c.inside-inner.ensures at c.in_ok-pins.ensures.made in
     rw (← c.begin.ensures, h0, h1) refl
+
+pub returns-clause-named : goal.returns-clause-named
+returns-clause-named c = record {
+  site_types = rw c.inside-inner.ensures at c.in_ok-site_types.ensures.named;
+  pins = rw c.inside-inner.ensures at c.in_ok-pins.ensures.named;
+}

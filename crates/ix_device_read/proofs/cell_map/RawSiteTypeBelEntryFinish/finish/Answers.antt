@@ -4,14 +4,14 @@ use Rattle.ix_device_read.specs.Finish.{finish_at, finish_row}
 use Rattle.ix_device_read.proofs.Each.{stops_first}
 use Rattle.ix_device_read.proofs.cell_map.RawSiteTypeBelEntryFinish.finish.Goals as goal
 
-pub returns-in_err-bels : goal.returns-in_err-bels
+pub returns-in_err-bels-clause-made : goal.returns-in_err-bels-clause-made
 unfolding finish_at finish_row
-returns-in_err-bels c =
+returns-in_err-bels-clause-made c =
     let p = err_from_is_err_and c.from_residual-in_err-bels.result c.from_residual-in_err-bels.ensures.1 in
-    rw (p.1, p.2, ← c.begin.ensures, c.in_ok-site_type.ensures) (stops_first c.in_err-bels.field-0.0 _ _ (stops_first c.in_err-bels.field-0.0 _ _ (c.in_err-bels.ensures)))
+    rw (p.1, p.2, ← c.begin.ensures, c.in_ok-site_type.ensures.made) (stops_first c.in_err-bels.field-0.0 _ _ (stops_first c.in_err-bels.field-0.0 _ _ (c.in_err-bels.ensures.made)))
 
-pub returns : goal.returns
+pub returns-clause-made : goal.returns-clause-made
 unfolding finish_at finish_row
-returns c =
-    let h0 = c.in_ok-bels.ensures in
-    rw (← c.begin.ensures, c.in_ok-site_type.ensures, h0) refl
+returns-clause-made c =
+    let h0 = c.in_ok-bels.ensures.made in
+    rw (← c.begin.ensures, c.in_ok-site_type.ensures.made, h0) refl

@@ -4,14 +4,14 @@ use Rattle.ix_device_read.specs.Finish.{finish_at, finish_row}
 use Rattle.ix_device_read.proofs.Each.{stops_first}
 use Rattle.ix_device_read.proofs.site_type.RawSiteWireFinish.finish.Goals as goal
 
-pub returns-in_err-pins : goal.returns-in_err-pins
+pub returns-in_err-pins-clause-made : goal.returns-in_err-pins-clause-made
 unfolding finish_at finish_row
-returns-in_err-pins c =
+returns-in_err-pins-clause-made c =
     let p = err_from_is_err_and c.from_residual-in_err-pins.result c.from_residual-in_err-pins.ensures.1 in
-    rw (p.1, p.2, ← c.begin.ensures, c.in_ok-name.ensures) (stops_first c.in_err-pins.field-0.0 _ _ (stops_first c.in_err-pins.field-0.0 _ _ (c.in_err-pins.ensures)))
+    rw (p.1, p.2, ← c.begin.ensures, c.in_ok-name.ensures.made) (stops_first c.in_err-pins.field-0.0 _ _ (stops_first c.in_err-pins.field-0.0 _ _ (c.in_err-pins.ensures)))
 
-pub returns : goal.returns
+pub returns-clause-made : goal.returns-clause-made
 unfolding finish_at finish_row
-returns c =
+returns-clause-made c =
     let h0 = c.in_ok-pins.ensures in
-    rw (← c.begin.ensures, c.in_ok-name.ensures, h0) refl
+    rw (← c.begin.ensures, c.in_ok-name.ensures.made, h0) refl

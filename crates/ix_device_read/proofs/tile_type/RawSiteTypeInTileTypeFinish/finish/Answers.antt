@@ -4,14 +4,14 @@ use Rattle.ix_device_read.specs.Finish.{finish_at, finish_row}
 use Rattle.ix_device_read.proofs.Each.{stops_first}
 use Rattle.ix_device_read.proofs.tile_type.RawSiteTypeInTileTypeFinish.finish.Goals as goal
 
-pub returns-in_err-primary_pins_to_tile_wires : goal.returns-in_err-primary_pins_to_tile_wires
+pub returns-in_err-primary_pins_to_tile_wires-clause-made : goal.returns-in_err-primary_pins_to_tile_wires-clause-made
 unfolding finish_at finish_row
-returns-in_err-primary_pins_to_tile_wires c =
+returns-in_err-primary_pins_to_tile_wires-clause-made c =
     let p = err_from_is_err_and c.from_residual-in_err-primary_pins_to_tile_wires.result c.from_residual-in_err-primary_pins_to_tile_wires.ensures.1 in
-    rw (p.1, p.2, ← c.begin.ensures, c.in_ok-primary_type.ensures.exact) (stops_first c.in_err-primary_pins_to_tile_wires.field-0.0 _ _ (stops_first c.in_err-primary_pins_to_tile_wires.field-0.0 _ _ (c.in_err-primary_pins_to_tile_wires.ensures)))
+    rw (p.1, p.2, ← c.begin.ensures, c.in_ok-primary_type.ensures.exact) (stops_first c.in_err-primary_pins_to_tile_wires.field-0.0 _ _ (stops_first c.in_err-primary_pins_to_tile_wires.field-0.0 _ _ (c.in_err-primary_pins_to_tile_wires.ensures.made)))
 
-pub returns : goal.returns
+pub returns-clause-made : goal.returns-clause-made
 unfolding finish_at finish_row
-returns c =
-    let h0 = c.in_ok-primary_pins_to_tile_wires.ensures in
+returns-clause-made c =
+    let h0 = c.in_ok-primary_pins_to_tile_wires.ensures.made in
     rw (← c.begin.ensures, c.in_ok-primary_type.ensures.exact, h0, c.new.ensures) refl

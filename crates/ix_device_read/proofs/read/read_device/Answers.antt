@@ -1,0 +1,49 @@
+use Rattle.std.proofs.Common.{◌≡◌, ◌∙◌, ℕ, List, length, map, ap, sym, subst}
+use Rattle.std.specs.Prelude.{IfOk}
+use Rattle.ix_frame.specs.Views.{segments_of}
+use Rattle.ix_message.specs.Shape.{Text}
+use Rattle.ix_message.specs.Device.{device}
+use Rattle.ix_device_raw.specs.Raw.{device_numbers}
+use Rattle.ix_device_read.specs.Named.{limit, DeviceNamed}
+use Rattle.ix_device_read.specs.Numbers.{name_text}
+use Rattle.ix_device_read.specs.Reading.{reading_in_segments, record_unless_bad, IsReading}
+use Rattle.ix_device_read.specs.Records.{device_record}
+use Rattle.ix_device_read.proofs.Whole.{device_room, device_few, device_most, behind_known, texts_again, of_numbers}
+use Rattle.ix_device_read.proofs.Naming.{limit_is}
+use Rattle.ix_device_read.proofs.read.read_device.Goals as goal
+
+pub add_names-requires : goal.add_names-requires
+add_names-requires c =
+    device_room c.args.frame.now (map (λ t. t.now) c.in-Ok.raw.table) (device_numbers c.in-Ok.raw.root) c.args.names.now c.in-Ok.ensures c.requires
+
+pub returns-in-Err-add_names-clause-most : goal.returns-in-Err-add_names-clause-most
+returns-in-Err-add_names-clause-most c =
+    device_most c.args.frame.now (map (λ t. t.now) c.in-Ok.raw.table) (device_numbers c.in-Ok.raw.root) c.args.names.now c.add_names.new.names c.in-Ok.ensures c.in-Err-add_names.ensures.adds
+
+pub finish_named-requires-clause-known : goal.finish_named-requires-clause-known
+finish_named-requires-clause-known c =
+    behind_known c.add_names.new.names (map (λ t. t.now) c.in-Ok.raw.table) (device_numbers c.in-Ok.raw.root) c.in-Ok-add_names.ensures.adds.known
+
+pub finish_named-requires-clause-few : goal.finish_named-requires-clause-few
+finish_named-requires-clause-few c =
+    device_few c.args.frame.now (map (λ t. t.now) c.in-Ok.raw.table) (device_numbers c.in-Ok.raw.root) c.in-Ok.ensures
+
+pub returns-clause-reading : goal.returns-clause-reading
+returns-clause-reading c =
+    let names = c.add_names.new.names in
+    let table = map (λ t. t.now) c.in-Ok.raw.table in
+    let v = device_numbers c.in-Ok.raw.root in
+    let again : map (name_text names) c.as_slice.result.now ≡ table = ap (map (name_text names)) c.as_slice.ensures ∙ texts_again names c.in-Ok-add_names.strings table c.in-Ok-add_names.ensures.numbers in
+    let whole : reading_in_segments device (segments_of c.args.frame.now) ≡ record_unless_bad (map (name_text names) c.as_slice.result.now) device v =
+    of_numbers device (segments_of c.args.frame.now) table v c.in-Ok.ensures ∙ ap (λ (ts : List Text). record_unless_bad ts device v) (sym again) in
+    subst (IsReading (device_record names) c.finish_named.result) (sym whole) c.finish_named.ensures.reading
+
+pub returns-clause-most : goal.returns-clause-most
+returns-clause-most c =
+    device_most c.args.frame.now (map (λ t. t.now) c.in-Ok.raw.table) (device_numbers c.in-Ok.raw.root) c.args.names.now c.add_names.new.names c.in-Ok.ensures c.in-Ok-add_names.ensures.adds.grows
+
+pub returns-clause-named : goal.returns-clause-named
+returns-clause-named c =
+    let names = c.add_names.new.names in
+    let same : limit c.as_slice.result.now names ≡ length names = ap (λ (ids : List ℕ). limit ids names) c.as_slice.ensures ∙ limit_is names c.in-Ok-add_names.strings (map (λ t. t.now) c.in-Ok.raw.table) c.in-Ok-add_names.ensures.numbers in
+    subst (λ (n : ℕ). IfOk c.finish_named.result (DeviceNamed n)) same c.finish_named.ensures.named

@@ -5,3 +5,4 @@ pub mod SiteLemmas
 pub mod Walks
 pub mod WireLemmas
 pub mod TileWireLemmas
+pub mod FirstMaps

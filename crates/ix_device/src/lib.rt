@@ -2,6 +2,7 @@
 #![tactic(auto)]
 
 mod admissions;
+mod admitted;
 mod constants;
 mod luts;
 mod names;

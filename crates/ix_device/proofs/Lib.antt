@@ -6,3 +6,4 @@ pub mod Walks
 pub mod WireLemmas
 pub mod TileWireLemmas
 pub mod FirstMaps
+pub mod Valid

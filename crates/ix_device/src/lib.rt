@@ -8,5 +8,4 @@ mod luts;
 mod names;
 mod sites;
 mod tile_wires;
-mod type_tables;
 mod types;

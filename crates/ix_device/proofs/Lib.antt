@@ -1,4 +1,7 @@
 pub mod FirstPlaces
+pub mod OptionLemmas
+pub mod PlaceLemmas
 pub mod SiteLemmas
+pub mod SourceLemmas
 pub mod Walks
 pub mod WireLemmas

@@ -3,3 +3,6 @@ pub mod Elements
 pub mod Admission
 pub mod Sources
 pub mod Tables
+pub mod Counts
+pub mod Places
+pub mod NamedSources

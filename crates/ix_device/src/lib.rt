@@ -1,6 +1,9 @@
 //! A device that keeps all its rules, and what it tells by name and by number.
 #![tactic(auto)]
 
+mod counts;
+mod element_places;
 mod names;
+mod site_sources;
 mod sites;
 mod types;

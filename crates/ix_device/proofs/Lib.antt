@@ -1,4 +1,5 @@
 pub mod FirstPlaces
+pub mod LineLemmas
 pub mod OptionLemmas
 pub mod PlaceLemmas
 pub mod SiteLemmas

@@ -4,5 +4,6 @@ pub mod Admission
 pub mod Sources
 pub mod Tables
 pub mod Counts
-pub mod Places
 pub mod NamedSources
+pub mod Pins
+pub mod Places

@@ -7,3 +7,4 @@ mod names;
 mod site_sources;
 mod sites;
 mod types;
+mod usable;

@@ -1,3 +1,4 @@
+pub mod FilledTables
 pub mod FirstPlaces
 pub mod LineLemmas
 pub mod OptionLemmas

@@ -1,6 +1,7 @@
 -- The places of LUT BELs, by the names of site type and BEL.
 use Rattle.std.specs.Prelude.{◌≡◌, ℕ, List, slice_get, Option, Some, option_map, option_and_then}
 use Rattle.std.specs.List.{find}
+use Rattle.ix_rec.specs.declared.device.SiteType.{SiteType}
 use Rattle.ix_rec.specs.declared.device.LutElement.{LutElement}
 use Rattle.ix_rec.specs.declared.device.SiteTypeLutElements.{SiteTypeLutElements}
 use Rattle.ix_keys.specs.Keys.{key}
@@ -23,3 +24,7 @@ element_at entries p = option_and_then (λ e. slice_get e.luts p.lut) (slice_get
 pub record ArePlaces (entries : List SiteTypeLutElements) (elements : ℕ → List LutElement) (table : FirstByKey ElementPlace) : Type 0 where
   pub places : (ty bel : ℕ) → option_map place_told (value_at table (key ty 0 bel)) ≡ place_in bel (elements ty)
   pub luts : (ty bel : ℕ) → option_map (element_at entries) (value_at table (key ty 0 bel)) ≡ option_map Some (find (element_has bel) (elements ty))
+
+-- the place of the BEL of this number of a site type
+abbrev pub place_of_bel : FirstByKey ElementPlace → SiteType → ℕ → Option ElementPlace
+place_of_bel places t bel = option_and_then (λ b. value_at places (key t.name 0 b.name)) (slice_get t.bels bel)

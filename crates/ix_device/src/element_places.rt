@@ -5,16 +5,17 @@ ghost use Rattle.std.specs.Option.{option_or};
 ghost use Rattle.std.specs.List.{position};
 ghost use Rattle.ix_rec.specs.declared.device.SiteTypeLutElements.{SiteTypeLutElements as EntrySeen};
 ghost use Rattle.ix_keys.specs.Keys.{key};
-ghost use Rattle.ix_first.specs.First.{value_at};
+ghost use Rattle.ix_first.specs.First.{value_at, value_of};
 ghost use Rattle.ix_device_rules.specs.Rules.{elements_for};
-ghost use Rattle.ix_device.specs.Places.{ArePlaces};
+ghost use Rattle.ix_device.specs.Places.{ArePlaces, place_told, place_of_bel as place_told_of};
 
 use crate::counts::Counts;
+use crate::filling::put_found;
 use crate::sites::number_of;
-use ix_first::FirstByKey;
+use ix_first::{FirstById, FirstByKey};
 use ix_keys::Key;
 use ix_num::{Memory, NameId};
-use ix_rec::{Items, LutBel, SiteTypeLutElements};
+use ix_rec::{Items, LutBel, SiteType, SiteTypeLutElements};
 use std::alloc::Global;
 
 /// The place of a BEL in a LUT element.
@@ -106,4 +107,41 @@ pub(crate) fn element_places(
         counts.set(entry.site, next)?;
     }
     Ok(table)
+}
+
+/// The place of the BEL of this number of a site type; none where no element has it.
+pub(crate) fn place_of_bel(
+    places: &FirstByKey<ElementPlace>,
+    ty: &SiteType,
+    bel: usize,
+) -> Option<ElementPlace>
+    requires { bel < length ty.now.bels }
+    ensures { result ≡ place_told_of places.now ty.now bel }
+{
+    places.get(Key::new(ty.name.get(), 0, ty.bels.at(bel).name.get()))
+}
+
+// An element's number and a place in it.
+fn shown(place: Option<ElementPlace>) -> Option<(u32, u32)>
+    ensures { result ≡ option_map place_told place }
+{
+    match place {
+        Some(place) => Some((place.element, place.place)),
+        None => None,
+    }
+}
+
+/// The place of each BEL of a site type: its element's number, and its place in it.
+pub(crate) fn elements_of_bels(
+    alloc: Global,
+    ty: &SiteType,
+    places: &FirstByKey<ElementPlace>,
+) -> Result<FirstById<(u32, u32)>, Memory>
+    ensures { IfOk result (λ elements. (bel : ℕ) → bel < length ty.now.bels → value_of elements bel ≡ Some (option_map place_told (place_told_of places.now ty.now bel))) }
+{
+    let mut elements = FirstById::new(alloc, ty.bels.len())?;
+    for bel in 0..ty.bels.len() {
+        put_found(&mut elements, bel, shown(place_of_bel(places, ty, bel)));
+    }
+    Ok(elements)
 }

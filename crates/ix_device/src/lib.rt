@@ -3,6 +3,7 @@
 
 mod counts;
 mod element_places;
+mod filling;
 mod names;
 mod site_sources;
 mod sites;

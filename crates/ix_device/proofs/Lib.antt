@@ -5,5 +5,6 @@ pub mod OptionLemmas
 pub mod PlaceLemmas
 pub mod SiteLemmas
 pub mod SourceLemmas
+pub mod TypeLemmas
 pub mod Walks
 pub mod WireLemmas

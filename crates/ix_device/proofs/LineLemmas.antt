@@ -1,6 +1,7 @@
 -- The lines of LUT BELs, input by input and BEL by BEL.
-use Rattle.std.proofs.Common.{◌≡◌, ◌≤◌, ◌<◌, refl, ap, sym, subst, ◌∙◌, ℕ, zero, suc, ◌+◌, ◌&&◌, ◌||◌, not, Bool, true, false, true≢false, cond, nat_eq, nat_le, if◌then◌else◌, ◌⊎◌, inl, inr, List, [], ◌∷◌, ◌++◌, append_assoc, length, map, take, drop, slice_get, Option, Some, None, is_some, option_map, arith}
+use Rattle.std.proofs.Common.{◌≡◌, ◌≤◌, ◌<◌, refl, ap, sym, ◌∙◌, ℕ, zero, suc, ◌+◌, ◌&&◌, ◌||◌, not, Bool, true, false, true≢false, cond, nat_eq, nat_le, if◌then◌else◌, inl, inr, List, [], ◌∷◌, ◌++◌, append_assoc, length, take, drop, slice_get, Option, Some, None, is_some, option_map, arith}
 use Rattle.std.specs.List.{list_any, list_all, flat_map}
+use Rattle.std.proofs.Math.Bool.{and-false, or-false, or-true}
 use Rattle.std.proofs.Math.Seq.{take-length}
 use Rattle.std.proofs.lemmas.Bool.{eqb-true, le-leb, lt-leb}
 use Rattle.std.proofs.lemmas.List.{append-nil, length-append, take-append-drop}
@@ -10,10 +11,9 @@ use Rattle.std.proofs.lemmas.Grind.{flat_map-append}
 use Rattle.ix_rec.specs.declared.device.SiteType.{SiteType}
 use Rattle.ix_rec.specs.declared.device.LutBel.{LutBel}
 use Rattle.ix_rec.specs.declared.device.LutElement.{LutElement}
-use Rattle.ix_device_rules.specs.Rules.{is_new}
 use Rattle.ix_device.specs.Elements.{differ, distinct, present, input_lines, has_own_lines, is_usable}
 use Rattle.ix_device.specs.Pins.{line_in, with_line, with_lines, AreOwnLines}
-use Rattle.ix_device.proofs.Walks.{take_next, length_take}
+use Rattle.ix_device.proofs.Walks.{take_next}
 use Rattle.ix_device.proofs.WireLemmas.{nat_eq-swap}
 
 -- the lines of the first inputs, each on a line of its own
@@ -31,18 +31,6 @@ pub record AreAllLines (t : SiteType) (bels : List LutBel) (i : ℕ) (all : List
 
 abbrev has : List ℕ → ℕ → Bool
 has lines x = list_any (nat_eq x) lines
-
-or-true : (b : Bool) → (b || true) ≡ true
-or-true true = refl
-or-true false = refl
-
-or-false : (b : Bool) → (b || false) ≡ b
-or-false true = refl
-or-false false = refl
-
-and-false : (b : Bool) → (b && false) ≡ false
-and-false true = refl
-and-false false = refl
 
 -- What has the lines and one more.
 

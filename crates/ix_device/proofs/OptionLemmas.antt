@@ -1,11 +1,10 @@
 -- What is there first of two, and lists by their first items.
-use Rattle.std.proofs.Common.{◌≡◌, refl, ap, sym, subst, ◌∙◌, ℕ, ◌+◌, ◌<◌, ◌||◌, Bool, true, false, true≢false, cond, List, [], ◌∷◌, ◌++◌, length, take, slice_get, Option, Some, None, is_some, option_map, option_and_then, arith}
+use Rattle.std.proofs.Common.{◌≡◌, refl, ap, sym, ◌∙◌, ℕ, ◌+◌, ◌||◌, Bool, true, false, cond, List, [], ◌∷◌, ◌++◌, slice_get, Option, Some, None, is_some, option_map}
 use Rattle.std.specs.Option.{option_or}
 use Rattle.std.specs.List.{list_any, position, find}
 use Rattle.std.proofs.lemmas.Option.{slice_get-get_or, none-some}
 use Rattle.std.proofs.lemmas.List.Quantifiers.{position-Some}
 use Rattle.std.proofs.lemmas.List.Folds.{find-append}
-use Rattle.ix_first.specs.First.{or_later}
 use Rattle.ix_device.proofs.FirstPlaces.{position-cons}
 
 pub option_or-assoc : {A : Type 0} (a b c : Option A) → option_or (option_or a b) c ≡ option_or a (option_or b c)
@@ -24,14 +23,9 @@ pub option_map-map : {A B C : Type 0} (f : A → B) (g : B → C) (o : Option A)
 option_map-map f g None = refl
 option_map-map f g (Some x) = refl
 
-pub is_some-map : {A B : Type 0} (f : A → B) (o : Option A) → is_some (option_map f o) ≡ is_some o
+is_some-map : {A B : Type 0} (f : A → B) (o : Option A) → is_some (option_map f o) ≡ is_some o
 is_some-map f None = refl
 is_some-map f (Some x) = refl
-
-pub or_later-or : {A : Type 0} (o : Option A) (b : Bool) (x : A) → or_later o b x ≡ option_or o (cond b (Some x) None)
-or_later-or None true x = refl
-or_later-or None false x = refl
-or_later-or (Some y) b x = refl
 
 -- an item passes exactly where there is a first
 pub list_any-position : {X : Type 0} (p : X → Bool) (xs : List X) → list_any p xs ≡ is_some (position p xs)

@@ -1,12 +1,12 @@
 -- The places of LUT BELs, element by element.
-use Rattle.std.proofs.Common.{◌≡◌, refl, ap, sym, subst, ◌∙◌, ℕ, zero, suc, ◌+◌, ◌<◌, ◌&&◌, Bool, true, false, true≢false, cond, nat_eq, if◌then◌else◌, List, [], ◌∷◌, ◌++◌, append_assoc, length, take, slice_get, Option, Some, None, is_some, option_map, option_and_then, arith}
+use Rattle.std.proofs.Common.{◌≡◌, refl, ap, sym, ◌∙◌, ℕ, zero, suc, ◌+◌, ◌&&◌, Bool, true, false, true≢false, cond, nat_eq, if◌then◌else◌, List, [], ◌∷◌, ◌++◌, append_assoc, length, take, slice_get, Option, Some, None, is_some, option_map, option_and_then}
 use Rattle.std.specs.Option.{option_or}
-use Rattle.std.specs.List.{list_any, position, find}
+use Rattle.std.specs.List.{position, find}
 use Rattle.std.proofs.Math.Seq.{take-length}
 use Rattle.std.proofs.lemmas.Bool.{eq-eqb, eqb-true}
 use Rattle.std.proofs.lemmas.Grind.{flat_map-append}
 use Rattle.std.proofs.lemmas.List.{append-nil, length-append}
-use Rattle.std.proofs.lemmas.Option.{slice_get-get_or, slice_get_within, get_or_from_slice_get, none-some, same_Some}
+use Rattle.std.proofs.lemmas.Option.{none-some}
 use Rattle.ix_rec.specs.declared.device.LutElement.{LutElement}
 use Rattle.ix_rec.specs.declared.device.SiteTypeLutElements.{SiteTypeLutElements}
 use Rattle.ix_keys.specs.Keys.{key}

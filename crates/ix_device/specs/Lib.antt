@@ -7,3 +7,4 @@ pub mod Counts
 pub mod NamedSources
 pub mod Pins
 pub mod Places
+pub mod TypeTables

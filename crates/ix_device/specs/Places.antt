@@ -1,6 +1,7 @@
 -- The places of LUT BELs, by the names of site type and BEL.
 use Rattle.std.specs.Prelude.{◌≡◌, ℕ, List, slice_get, Option, Some, option_map, option_and_then}
 use Rattle.std.specs.List.{find}
+use Rattle.ix_rec.specs.declared.device.DeviceRec.{DeviceRec}
 use Rattle.ix_rec.specs.declared.device.SiteType.{SiteType}
 use Rattle.ix_rec.specs.declared.device.LutElement.{LutElement}
 use Rattle.ix_rec.specs.declared.device.SiteTypeLutElements.{SiteTypeLutElements}
@@ -8,7 +9,8 @@ use Rattle.ix_keys.specs.Keys.{key}
 use Rattle.ix_first.specs.First.{value_at}
 use Rattle.ix_first.specs.declared.by_key.FirstByKey.{FirstByKey}
 use Rattle.ix_device_rules.specs.Rules.{element_has}
-use Rattle.ix_device.specs.Elements.{place_in}
+use Rattle.ix_device.specs.Elements.{place_in, element_of_bel}
+use Rattle.ix_device.specs.Admission.{inputs_of_bel}
 use Rattle.ix_device.specs.declared.element_places.ElementPlace.{ElementPlace}
 
 -- an element's number, and a place in it
@@ -28,3 +30,7 @@ pub record ArePlaces (entries : List SiteTypeLutElements) (elements : ℕ → Li
 -- the place of the BEL of this number of a site type
 abbrev pub place_of_bel : FirstByKey ElementPlace → SiteType → ℕ → Option ElementPlace
 place_of_bel places t bel = option_and_then (λ b. value_at places (key t.name 0 b.name)) (slice_get t.bels bel)
+
+-- how many inputs the BEL of this number has in a usable element
+abbrev pub usable_inputs : DeviceRec → SiteType → ℕ → Option ℕ
+usable_inputs rec t bel = option_and_then (inputs_of_bel rec t) (element_of_bel rec bel t)

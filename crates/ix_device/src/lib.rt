@@ -4,6 +4,7 @@
 mod counts;
 mod element_places;
 mod filling;
+mod lut_inputs;
 mod names;
 mod site_sources;
 mod sites;

@@ -1,4 +1,4 @@
-use Rattle.std.proofs.Common.{◌≡◌, ◌∙◌, ap, ℕ, ◌+◌, length}
+use Rattle.std.proofs.Common.{◌∙◌, ap, ◌+◌}
 use Rattle.ix_device.specs.Counts.{count_at}
 use Rattle.ix_device.proofs.PlaceLemmas.{one_more_count}
 use Rattle.ix_device.proofs.element_places.element_places.Goals as goal

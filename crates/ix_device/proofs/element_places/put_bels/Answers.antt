@@ -1,4 +1,4 @@
-use Rattle.std.proofs.Common.{◌≡◌, ◌∙◌, ap, refl, ℕ, nat_eq, ◌&&◌, if◌then◌else◌, option_map, None, take}
+use Rattle.std.proofs.Common.{◌∙◌, ap, refl, ℕ, nat_eq, ◌&&◌, if◌then◌else◌, option_map, None, take}
 use Rattle.std.specs.List.{position}
 use Rattle.std.specs.Option.{option_or}
 use Rattle.ix_keys.specs.Keys.{key, key_eq}

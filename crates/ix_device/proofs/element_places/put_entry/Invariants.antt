@@ -1,4 +1,4 @@
-use Rattle.std.proofs.Common.{ℕ, List, [], ◌++◌, take, nat_eq, if◌then◌else◌}
+use Rattle.std.proofs.Common.{[], ◌++◌, take, nat_eq, if◌then◌else◌}
 use Rattle.ix_device_rules.specs.Rules.{elements_for}
 use Rattle.ix_device.specs.Places.{ArePlaces}
 use Rattle.ix_device.proofs.element_places.put_entry.Given as goal

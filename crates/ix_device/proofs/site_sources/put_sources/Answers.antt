@@ -1,4 +1,3 @@
-use Rattle.std.proofs.Common.{◌≡◌}
 use Rattle.ix_first.specs.First.{value_at}
 use Rattle.ix_device.specs.NamedSources.{is_under}
 use Rattle.ix_device.proofs.SourceLemmas.{one_more_source}

@@ -1,4 +1,4 @@
-use Rattle.std.proofs.Common.{◌≡◌, ◌∙◌, ap, sym, [], ◌∷◌, take}
+use Rattle.std.proofs.Common.{◌∙◌, ap, sym, [], ◌∷◌, take}
 use Rattle.ix_device.specs.Pins.{with_line, with_lines}
 use Rattle.ix_device.proofs.Walks.{take_next}
 use Rattle.ix_device.proofs.LineLemmas.{with_lines-append}

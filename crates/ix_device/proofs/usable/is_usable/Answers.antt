@@ -1,4 +1,4 @@
-use Rattle.std.proofs.Common.{◌≡◌, ◌≤◌, ◌<◌, ◌∙◌, ap, sym, subst, arith, length, Option, Some, None, ℕ, List}
+use Rattle.std.proofs.Common.{◌≡◌, ◌≤◌, ◌<◌, subst, arith, length}
 use Rattle.ix_device.specs.Pins.{AreOwnLines}
 use Rattle.ix_device.proofs.LineLemmas.{unusable_bel, unusable_after, one_more_lut_bel, usable_whole}
 use Rattle.ix_device.proofs.usable.is_usable.Goals as goal

@@ -1,5 +1,4 @@
-use Rattle.std.proofs.Common.{◌≡◌, ◌≤◌, ◌∙◌, ap, sym, subst, inl, inr, arith, length, slice_get, Option, Some, None, ℕ}
-use Rattle.ix_device.specs.Elements.{input_lines}
+use Rattle.std.proofs.Common.{◌≤◌, ◌∙◌, ap, sym, subst, inl, inr, arith, length, Some}
 use Rattle.ix_device.proofs.LineLemmas.{AreFirstLines, input_at, on_no_line, on_one_line, on_many_lines, one_more_input}
 use Rattle.ix_device.proofs.usable.own_lines.Goals as goal
 

@@ -1,4 +1,3 @@
-use Rattle.std.proofs.Common.{◌≡◌, []}
 use Rattle.ix_device.proofs.LineLemmas.{AreFirstLines}
 use Rattle.ix_device.proofs.usable.own_lines.Given as goal
 

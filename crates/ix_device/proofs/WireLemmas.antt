@@ -1,6 +1,7 @@
 -- The site wires of BEL pins, wire by wire and pin by pin.
-use Rattle.std.proofs.Common.{◌≡◌, refl, ap, sym, ◌∙◌, ℕ, ◌+◌, ◌<◌, Bool, true, false, ◌||◌, nat_eq, List, [], ◌∷◌, ◌++◌, take, slice_get, Option, Some, None, option_map, arith}
+use Rattle.std.proofs.Common.{◌≡◌, refl, ap, sym, ◌∙◌, ℕ, ◌+◌, Bool, true, false, ◌||◌, nat_eq, List, [], ◌∷◌, take, slice_get, Option, Some, None, option_map, arith}
 use Rattle.std.specs.List.{list_any, position}
+use Rattle.std.proofs.Math.Bool.{or-false}
 use Rattle.std.proofs.lemmas.Bool.Decides.{nat_tests}
 use Rattle.std.proofs.lemmas.List.Folds.{list_any-append}
 use Rattle.ix_first.specs.First.{or_later}
@@ -11,11 +12,7 @@ pub nat_eq-swap : (a b : ℕ) → nat_eq a b ≡ nat_eq b a
 nat_eq-swap a b = grind (arith, nat_tests)
 
 pub list_any_next : {X : Type 0} (p : X → Bool) (xs : List X) (i : ℕ) (x : X) → slice_get xs i ≡ Some x → list_any p (take (i + 1) xs) ≡ (list_any p (take i xs) || p x)
-list_any_next p xs i x at = ap (list_any p) (take_next xs i x at) ∙ list_any-append p (take i xs) (x ∷ []) ∙ ap (λ b. list_any p (take i xs) || b) (last (p x))
-  where
-    last : (b : Bool) → (b || false) ≡ b
-    last true = refl
-    last false = refl
+list_any_next p xs i x at = ap (list_any p) (take_next xs i x at) ∙ list_any-append p (take i xs) (x ∷ []) ∙ ap (λ b. list_any p (take i xs) || b) (or-false (p x))
 
 -- a value put twice is put where one of the tests passes
 later_twice : {V : Type 0} (a b : Bool) (later : V) (o : Option (Option V)) → option_map (λ v. or_later v b later) (option_map (λ v. or_later v a later) o) ≡ option_map (λ v. or_later v (a || b) later) o

@@ -6,3 +6,9 @@ pub mod Tables
 pub mod Listed
 pub mod Premises
 pub mod TileWires
+pub mod Counts
+pub mod NamedSources
+pub mod Pins
+pub mod Places
+pub mod TypeTables
+pub mod AllTables

@@ -4,7 +4,7 @@ use Rattle.std.specs.List.{position}
 use Rattle.ix_keys.specs.Keys.{key}
 use Rattle.ix_first.specs.First.{value_at}
 use Rattle.ix_rec.specs.declared.device.SiteType.{SiteType}
-use Rattle.ix_device.specs.declared.type_tables.TypeTables.{TypeTables}
+use Rattle.ix_device.specs.declared.types.TypeTables.{TypeTables}
 use Rattle.ix_device.specs.Lookups.{pin_of_bel}
 
 -- no two site types have one name

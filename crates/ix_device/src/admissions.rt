@@ -13,7 +13,7 @@ ghost use Rattle.ix_device.specs.Listed.{listing, names_one, PutsMap, PutsMappin
 ghost use Rattle.ix_device.specs.Premises.{TypesDiffer, FindPins};
 
 use crate::sites::number_of;
-use crate::type_tables::TypeTables;
+use crate::types::TypeTables;
 use ix_first::FirstByKey;
 use ix_keys::Key;
 use ix_num::{BelPinId, Memory, NameId, SiteTypeId};

@@ -2,16 +2,44 @@
 
 ghost use Rattle.std.specs.Prelude.{◌≡◌, ◌<◌, ℕ, Some, length, option_map, nat_eq, IfOk};
 ghost use Rattle.std.specs.List.{list_any};
+ghost use Rattle.ix_keys.specs.declared.key.Key.{Key as KeySeen};
 ghost use Rattle.ix_keys.specs.Keys.{key, name_key};
 ghost use Rattle.ix_first.specs.First.{value_at, value_of, or_later};
+ghost use Rattle.ix_device_rules.specs.Rules.{elements_for};
 ghost use Rattle.ix_device.specs.Lookups.{bel_in, pin_of_bel, site_pin_in, wire_in};
+ghost use Rattle.ix_device.specs.NamedSources.{named_source};
+ghost use Rattle.ix_device.specs.Places.{ArePlaces};
+ghost use Rattle.ix_device.specs.TypeTables.{AreTypeTables, AreAllTypeTables};
 
+use crate::element_places::{ElementPlace, element_places, elements_of_bels};
+use crate::lut_inputs::inputs_of_bels;
+use crate::site_sources::{source_table, sources_of_pins};
 use crate::sites::number_of;
+use crate::usable::Pins;
 use ix_first::{FirstById, FirstByKey};
 use ix_keys::Key;
-use ix_num::{BelId, BelPinId, Memory, SitePinId, SiteWireId};
-use ix_rec::{Items, SiteType};
+use ix_num::{BelId, BelPinId, Constant, Memory, SitePinId, SiteWireId};
+use ix_rec::{DeviceRec, Items, SiteType};
 use std::alloc::Global;
+
+/// What is told of the parts of a site type, by name and by number.
+#[derive(Drop)]
+pub(crate) struct TypeTables {
+    /// The BELs by name.
+    pub bels: FirstByKey<BelId>,
+    /// The BEL pins by the names of their BELs and their own.
+    pub bel_pins: FirstByKey<BelPinId>,
+    /// The site pins by name.
+    pub site_pins: FirstByKey<SitePinId>,
+    /// The site wire of each BEL pin.
+    pub wires: FirstById<SiteWireId>,
+    /// The place of each BEL in a LUT element: the element's number, and the place in it.
+    pub elements: FirstById<(u32, u32)>,
+    /// How many inputs each BEL has in a usable LUT element.
+    pub inputs: FirstById<u32>,
+    /// The constant that each BEL pin can drive.
+    pub sources: FirstById<Constant>,
+}
 
 // The BELs by name.
 fn bel_numbers(alloc: Global, ty: &SiteType) -> Result<FirstByKey<BelId>, Memory>
@@ -69,4 +97,49 @@ fn wires_of_pins(alloc: Global, ty: &SiteType) -> Result<FirstById<SiteWireId>, 
         put_wire(&mut table, wire, &ty.site_wires.at(i).pins);
     }
     Ok(table)
+}
+
+// The tables of one site type, from the tables of all places and sources by name.
+fn type_tables(
+    alloc: Global,
+    rec: &DeviceRec,
+    ty: &SiteType,
+    places: &FirstByKey<ElementPlace>,
+    sources: &FirstByKey<Constant>,
+) -> Result<TypeTables, Memory>
+    requires places { ArePlaces rec.now.lut_definitions.lut_elements (λ ty. elements_for ty rec.now.lut_definitions.lut_elements) places.now }
+    requires sources { (q : KeySeen) → value_at sources.now q ≡ named_source rec.now q }
+    ensures { IfOk result (AreTypeTables rec.now ty.now) }
+{
+    let bel_pins = bel_pin_numbers(alloc, ty)?;
+    let wires = wires_of_pins(alloc, ty)?;
+    let pins = Pins {
+        ty,
+        numbers: &bel_pins,
+        wires: &wires,
+    };
+    let inputs = inputs_of_bels(alloc, rec, &pins, places)?;
+    let sources = sources_of_pins(alloc, ty, &bel_pins, sources)?;
+    Ok(TypeTables {
+        bels: bel_numbers(alloc, ty)?,
+        bel_pins,
+        site_pins: site_pin_numbers(alloc, ty)?,
+        wires,
+        elements: elements_of_bels(alloc, ty, places)?,
+        inputs,
+        sources,
+    })
+}
+
+/// The tables of all site types, by number. The device's elements and sources are walked once each.
+pub(crate) fn all_type_tables(alloc: Global, rec: &DeviceRec) -> Result<Items<TypeTables>, Memory>
+    ensures { IfOk result (AreAllTypeTables rec.now) }
+{
+    let places = element_places(alloc, &rec.lut_definitions.lut_elements)?;
+    let sources = source_table(alloc, rec)?;
+    let mut all = Items::new(alloc);
+    for i in 0..rec.site_type_list.len() {
+        all.push(type_tables(alloc, rec, rec.site_type_list.at(i), &places, &sources)?)?;
+    }
+    Ok(all)
 }

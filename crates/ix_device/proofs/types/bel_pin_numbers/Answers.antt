@@ -1,4 +1,4 @@
-use Rattle.std.proofs.Common.{◌≡◌, ℕ, ap, ◌∙◌}
+use Rattle.std.proofs.Common.{ap, ◌∙◌}
 use Rattle.ix_keys.specs.Keys.{key, key_eq}
 use Rattle.ix_first.specs.First.{value_at, or_later}
 use Rattle.ix_device_rules.specs.Rules.{is_pin_of}

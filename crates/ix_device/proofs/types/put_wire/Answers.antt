@@ -1,4 +1,4 @@
-use Rattle.std.proofs.Common.{◌≡◌, ℕ, ap, ◌∙◌, nat_eq, option_map}
+use Rattle.std.proofs.Common.{ap, ◌∙◌, nat_eq, option_map}
 use Rattle.ix_first.specs.First.{value_of, or_later}
 use Rattle.ix_device.proofs.WireLemmas.{one_more_pin}
 use Rattle.ix_device.proofs.types.put_wire.Goals as goal

@@ -1,4 +1,4 @@
-use Rattle.std.proofs.Common.{◌≡◌, ℕ, ap, ◌∙◌, nat_eq, option_map}
+use Rattle.std.proofs.Common.{ap, ◌∙◌, nat_eq, option_map}
 use Rattle.std.specs.List.{list_any}
 use Rattle.ix_first.specs.First.{value_of, or_later}
 use Rattle.ix_device.proofs.WireLemmas.{one_more_wire}

@@ -11,7 +11,7 @@ use Rattle.std.specs.List.{AllByRecursion, position}
 use Rattle.ix_rec.specs.declared.device.DeviceRec.{DeviceRec}
 use Rattle.ix_rec.specs.declared.device.Tile.{Tile}
 use Rattle.ix_device_rules.specs.Ranges.{SitesFit}
-use Rattle.ix_device.specs.Lookups.{sites_from, sites_of, site_named, type_of_tile}
+use Rattle.ix_device.specs.Lookups.{sites_from, sites_of, site_named, name_of_site, tile_of_site, type_of_site, type_of_tile}
 use Rattle.ix_device.proofs.FirstPlaces.{position-cons}
 use Rattle.ix_device.proofs.Walks.{map_take_next, take_next, length_take}
 
@@ -101,3 +101,29 @@ site_at rec entries site e are at =
     through : (o : Option (ℕ × Site)) → option_map (told_of rec) o ≡ Some (entry_told e) → option_and_then (told_of rec) o ≡ entry_told e
     through None h = absurd (none-some (entry_told e) h)
     through (Some s) h = same_Some (told_of rec s) (entry_told e) h
+
+-- what an entry tells of its site
+pub record Tells (rec : DeviceRec) (site : ℕ) (e : SiteEntry) : Type 0 where
+  pub name : name_of_site rec site ≡ Some e.name
+  pub tile : tile_of_site rec site ≡ Some e.tile
+  pub ty : type_of_site rec site ≡ Some e.ty
+
+pub tells : (rec : DeviceRec) (entries : List SiteEntry) (site : ℕ) (e : SiteEntry) → AreSites rec entries → slice_get entries site ≡ Some e → Tells rec site e
+tells rec entries site e are at = by (slice_get (sites_of rec) site) refl (site_at rec entries site e are at)
+  where
+    found : (s : ℕ × Site) (p : Option TileType) → type_of_tile rec s.0 ≡ p → option_and_then (λ ty. told_in s.0 ty s.1) p ≡ entry_told e
+        → (s.1.name ≡ e.name) × (s.0 ≡ e.tile) × (option_and_then (λ ty. option_map (λ u. u.primary_type) (slice_get ty.site_types s.1.ty)) p ≡ Some e.ty)
+    found s None h told = absurd (none-some (e.name, e.tile, e.ty) told)
+    found s (Some ty) h told = in_type (slice_get ty.site_types s.1.ty) told
+      where
+        in_type : (q : Option SiteTypeInTileType) → option_map (λ u. (s.1.name, s.0, u.primary_type)) q ≡ entry_told e
+            → (s.1.name ≡ e.name) × (s.0 ≡ e.tile) × (option_map (λ u. u.primary_type) q ≡ Some e.ty)
+        in_type None t = absurd (none-some (e.name, e.tile, e.ty) t)
+        in_type (Some u) t = let same = same_Some (s.1.name, s.0, u.primary_type) (e.name, e.tile, e.ty) t in (ap (λ x. x.0) same, ap (λ x. x.1) same, ap (λ x. Some x.2) same)
+    by : (o : Option (ℕ × Site)) → slice_get (sites_of rec) site ≡ o → option_and_then (told_of rec) o ≡ entry_told e → Tells rec site e
+    by None h told = absurd (none-some (e.name, e.tile, e.ty) told)
+    by (Some s) h told = let f = found s (type_of_tile rec s.0) refl told in record {
+      name = ap (option_map (λ s. s.1.name)) h ∙ ap Some f.0;
+      tile = ap (option_map (λ s. s.0)) h ∙ ap Some f.1;
+      ty = ap (option_and_then (λ s. option_and_then (λ ty. option_map (λ u. u.primary_type) (slice_get ty.site_types s.1.ty)) (type_of_tile rec s.0))) h ∙ f.2;
+    }

@@ -12,3 +12,4 @@ pub mod Pins
 pub mod Places
 pub mod TypeTables
 pub mod AllTables
+pub mod Valid

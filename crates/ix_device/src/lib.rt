@@ -6,6 +6,7 @@ mod admitted;
 mod constants;
 mod luts;
 mod counts;
+mod device;
 mod element_places;
 mod filling;
 mod lut_inputs;

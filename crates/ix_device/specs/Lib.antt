@@ -13,3 +13,4 @@ pub mod Places
 pub mod TypeTables
 pub mod AllTables
 pub mod Valid
+pub mod PinsListed

@@ -11,6 +11,7 @@ mod element_places;
 mod filling;
 mod lut_inputs;
 mod names;
+mod pins;
 mod site_sources;
 mod sites;
 mod tables;

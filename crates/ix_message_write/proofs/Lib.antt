@@ -1,0 +1,5 @@
+pub mod FirstUses
+pub mod Laid
+pub mod Turns
+pub mod RowLemmas
+pub mod Whole

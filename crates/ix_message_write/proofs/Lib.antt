@@ -3,3 +3,4 @@ pub mod Laid
 pub mod Turns
 pub mod RowLemmas
 pub mod Whole
+pub mod Steps

@@ -9,14 +9,15 @@ ghost use Rattle.ix_message_write.specs.Table.{table_in, IsTableOf};
 ghost use Rattle.ix_message_write.specs.Says.{Notes, Puts};
 
 use crate::string_table::Strings;
-use crate::to_message::ToMessage;
+use crate::struct_writer::StructWriter;
 use ix_capw::{At, BuildFault, Builder};
 use ix_rec::Items;
 use ix_strings::Names;
+use std::alloc::Global;
 
 /// Takes note of the names that each struct of a list uses, with all that its pointers lead to before the next.
-pub fn note_list<T: ToMessage>(
-    list: &Items<T>,
+pub fn note_list<T: StructWriter>(
+    list: &Items<T::Item>,
     names: &Names,
     strings: &mut Strings,
 ) -> Result<(), BuildFault>
@@ -25,7 +26,7 @@ pub fn note_list<T: ToMessage>(
     ensures { Notes names.now strings.old strings.new (flat_map (uses T.shape) (map (T.record_by names.now) list.now)) result }
 {
     for i in 0..list.len() {
-        match list.at(i).note(names, strings) {
+        match T::note(list.at(i), names, strings) {
             Ok(()) => {}
             Err(fault) => return Err(fault),
         }
@@ -34,8 +35,9 @@ pub fn note_list<T: ToMessage>(
 }
 
 /// Puts a list of structs, each with all that its pointers lead to, and leads the pointer in this slot to it.
-pub fn write_list<T: ToMessage>(
-    list: &Items<T>,
+pub fn write_list<T: StructWriter>(
+    alloc: Global,
+    list: &Items<T::Item>,
     names: &Names,
     strings: &Strings,
     builder: &mut Builder,
@@ -57,10 +59,14 @@ pub fn write_list<T: ToMessage>(
         Err(fault) => return Err(fault),
     };
     for i in 0..count {
-        match list
-            .at(i as usize)
-            .write(names, strings, builder, elements.at(i))
-        {
+        match T::write(
+            alloc,
+            list.at(i as usize),
+            names,
+            strings,
+            builder,
+            elements.at(i),
+        ) {
             Ok(()) => {}
             Err(fault) => return Err(fault),
         }

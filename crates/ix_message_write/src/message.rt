@@ -5,7 +5,7 @@ ghost use Rattle.ix_message.specs.Message.{encoding, is_too_long};
 ghost use Rattle.ix_message_write.specs.Table.{IsRoot};
 
 use crate::string_table::Strings;
-use crate::to_message::ToMessage;
+use crate::struct_writer::StructWriter;
 use ix_capw::{BuildFault, Builder};
 use ix_strings::Names;
 use std::alloc::Global;
@@ -15,9 +15,9 @@ use std::alloc::Global;
 /// # Errors
 ///
 /// `TooLong` where the message is too long, `Memory`.
-pub fn write_message<T: ToMessage>(
+pub fn write_message<T: StructWriter>(
     alloc: Global,
-    root: &T,
+    root: &T::Item,
     names: &Names,
 ) -> Result<Vec<u8>, BuildFault>
     requires named { T.is_named names.now root.now }
@@ -30,7 +30,7 @@ pub fn write_message<T: ToMessage>(
         Ok(strings) => strings,
         Err(_) => return Err(BuildFault::Memory),
     };
-    match root.note(names, &mut strings) {
+    match T::note(root, names, &mut strings) {
         Ok(()) => {}
         Err(fault) => return Err(fault),
     }
@@ -39,7 +39,7 @@ pub fn write_message<T: ToMessage>(
         Ok(at) => at,
         Err(fault) => return Err(fault),
     };
-    match root.write(names, &strings, &mut builder, at) {
+    match T::write(alloc, root, names, &strings, &mut builder, at) {
         Ok(()) => {}
         Err(fault) => return Err(fault),
     }

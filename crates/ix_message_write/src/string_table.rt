@@ -62,6 +62,25 @@ impl Strings {
         Ok(())
     }
 
+    /// Takes note that names are used, in this order.
+    ///
+    /// # Errors
+    ///
+    /// `TooLong` where there are too many texts for a message, `Memory`.
+    pub fn note_all(&mut self, names: &Names, ids: &[NameId]) -> Result<(), BuildFault>
+        requires named { All (λ id. id < length names.now) ids.now }
+        requires table { IsTableOf names.now self.old }
+        ensures { Notes names.now self.old self.new (map (name_text names.now) ids.now) result }
+    {
+        for i in 0..ids.len() {
+            match self.note(names, ids[i]) {
+                Ok(()) => {}
+                Err(fault) => return Err(fault),
+            }
+        }
+        Ok(())
+    }
+
     /// The place of a name in the table, or the number of the table's texts where it isn't there.
     pub fn place(&self, names: &Names, id: NameId) -> u32
         requires named { id < length names.now }

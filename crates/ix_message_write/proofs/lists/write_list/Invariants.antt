@@ -8,4 +8,4 @@ use Rattle.ix_message_write.proofs.lists.write_list.Given as goal
 abbrev pub invariant-loop-i : goal.invariant-loop-i
 invariant-loop-i g l =
     let table = table_in l.names l.strings in
-    WrittenSoFar l.elements.start (g.T.ToMessage.WORDS + g.T.ToMessage.POINTERS) (λ x. section_of table g.T.ToMessage.shape (numbered (place_in table) g.T.ToMessage.shape (g.T.ToMessage.record_by l.names x))) l.list l.i l.initial.builder l.builder
+    WrittenSoFar l.elements.start (g.T.StructWriter.WORDS + g.T.StructWriter.POINTERS) (λ x. section_of table g.T.StructWriter.shape (numbered (place_in table) g.T.StructWriter.shape (g.T.StructWriter.record_by l.names x))) l.list l.i l.initial.builder l.builder

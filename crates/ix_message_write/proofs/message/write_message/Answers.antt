@@ -15,8 +15,8 @@ use Rattle.ix_message_write.proofs.message.write_message.Goals as goal
 pub returns-in-Err-note-clause-too_long : goal.returns-in-Err-note-clause-too_long
 returns-in-Err-note-clause-too_long g c = λ e.
     let names = c.args.names.now in
-    let s = g.T.ToMessage.shape in
-    let r = g.T.ToMessage.record_by names c.args.root.now in
+    let s = g.T.StructWriter.shape in
+    let r = g.T.StructWriter.record_by names c.args.root.now in
     let fault : c.in-Err-note.fault ≡ TooLong = cc in
     let many : 2 ^ 27 ≤ length (first_uses (table_in names c.in-Ok.strings) (uses s r)) = subst (λ (f : BuildFault). Notes {X = Unit {0}} names c.in-Ok.strings c.note.new.strings (uses s r) (Err f)) fault c.in-Err-note.ensures in
     many_texts s r c.requires.root (subst (λ (t : List Text). 2 ^ 27 ≤ length (first_uses t (uses s r))) c.in-Ok.ensures.empty many)
@@ -24,13 +24,13 @@ returns-in-Err-note-clause-too_long g c = λ e.
 pub returns-in-Err-write-clause-too_long : goal.returns-in-Err-write-clause-too_long
 returns-in-Err-write-clause-too_long g c = λ wrong.
     let names = c.args.names.now in
-    let s = g.T.ToMessage.shape in
-    let r = g.T.ToMessage.record_by names c.args.root.now in
-    let d = g.T.ToMessage.WORDS in
-    let n = g.T.ToMessage.POINTERS in
+    let s = g.T.StructWriter.shape in
+    let r = g.T.StructWriter.record_by names c.args.root.now in
+    let d = g.T.StructWriter.WORDS in
+    let n = g.T.StructWriter.POINTERS in
     let table = table_in names c.note.new.strings in
     let same : table ≡ table_of s r = c.in-Ok-note.ensures.texts ∙ ap (λ (t : List Text). first_uses t (uses s r)) c.in-Ok.ensures.empty in
-    let wide = g.met.T.ToMessage.is_wide names table c.args.root.now in
+    let wide = g.met.T.StructWriter.is_wide names table c.args.root.now in
     let e = section_of table s (numbered (place_in table) s r) in
     let blank : c.root.new.self ≡ root_segment d n = c.in-Ok-root.ensures.made ∙ ap (λ (k : ℕ). root_segment k c.POINTERS.result) c.WORDS.ensures ∙ ap (root_segment d) c.POINTERS.ensures in
     let start : c.in-Ok-root.at.start ≡ 1 = ap (λ (a : At). a.start) c.in-Ok-root.ensures.at in
@@ -41,13 +41,13 @@ returns-in-Err-write-clause-too_long g c = λ wrong.
 pub returns-in-Ok-finish-clause-bytes : goal.returns-in-Ok-finish-clause-bytes
 returns-in-Ok-finish-clause-bytes g c =
     let names = c.args.names.now in
-    let s = g.T.ToMessage.shape in
-    let r = g.T.ToMessage.record_by names c.args.root.now in
-    let d = g.T.ToMessage.WORDS in
-    let n = g.T.ToMessage.POINTERS in
+    let s = g.T.StructWriter.shape in
+    let r = g.T.StructWriter.record_by names c.args.root.now in
+    let d = g.T.StructWriter.WORDS in
+    let n = g.T.StructWriter.POINTERS in
     let table = table_in names c.note.new.strings in
     let same : table ≡ table_of s r = c.in-Ok-note.ensures.texts ∙ ap (λ (t : List Text). first_uses t (uses s r)) c.in-Ok.ensures.empty in
-    let wide = g.met.T.ToMessage.is_wide names table c.args.root.now in
+    let wide = g.met.T.StructWriter.is_wide names table c.args.root.now in
     let e = section_of table s (numbered (place_in table) s r) in
     let blank : c.root.new.self ≡ root_segment d n = c.in-Ok-root.ensures.made ∙ ap (λ (k : ℕ). root_segment k c.POINTERS.result) c.WORDS.ensures ∙ ap (root_segment d) c.POINTERS.ensures in
     let start : c.in-Ok-root.at.start ≡ 1 = ap (λ (a : At). a.start) c.in-Ok-root.ensures.at in
@@ -57,13 +57,13 @@ returns-in-Ok-finish-clause-bytes g c =
 pub returns-in-Ok-finish-clause-fits : goal.returns-in-Ok-finish-clause-fits
 returns-in-Ok-finish-clause-fits g c =
     let names = c.args.names.now in
-    let s = g.T.ToMessage.shape in
-    let r = g.T.ToMessage.record_by names c.args.root.now in
-    let d = g.T.ToMessage.WORDS in
-    let n = g.T.ToMessage.POINTERS in
+    let s = g.T.StructWriter.shape in
+    let r = g.T.StructWriter.record_by names c.args.root.now in
+    let d = g.T.StructWriter.WORDS in
+    let n = g.T.StructWriter.POINTERS in
     let table = table_in names c.note.new.strings in
     let same : table ≡ table_of s r = c.in-Ok-note.ensures.texts ∙ ap (λ (t : List Text). first_uses t (uses s r)) c.in-Ok.ensures.empty in
-    let wide = g.met.T.ToMessage.is_wide names table c.args.root.now in
+    let wide = g.met.T.StructWriter.is_wide names table c.args.root.now in
     let e = section_of table s (numbered (place_in table) s r) in
     let blank : c.root.new.self ≡ root_segment d n = c.in-Ok-root.ensures.made ∙ ap (λ (k : ℕ). root_segment k c.POINTERS.result) c.WORDS.ensures ∙ ap (root_segment d) c.POINTERS.ensures in
     let start : c.in-Ok-root.at.start ≡ 1 = ap (λ (a : At). a.start) c.in-Ok-root.ensures.at in

@@ -66,8 +66,8 @@ pub(crate) fn put_object(
     ensures ok { OnOk result (bytes.new.items ≡ written at 8 (little_bytes 8 pointer) bytes.old.items ++ replicate size 0) }
     ensures err { OnErr result (bytes.new.items ≡ bytes.old.items) }
 {
-    let length = bytes.len() + size;
-    bytes.resize(length, 0)?;
+    let whole = bytes.len() + size;
+    bytes.resize(whole, 0)?;
     put_word(bytes.as_mut_slice(), at, pointer);
     Ok(())
 }

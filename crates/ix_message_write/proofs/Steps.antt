@@ -1,15 +1,15 @@
 -- One step after another: names noted, pointers put.
-use Rattle.std.proofs.Common.{◌≡◌, ◌<◌, ◌≤◌, ◌+◌, ◌*◌, ◌/◌, ◌^◌, ◌++◌, ◌∙◌, [], ◌∷◌, ℕ, List, Bool, true, false, length, ap, sym, refl, subst, arith, length-append, inl, inr, ◌⊎◌}
+use Rattle.std.proofs.Common.{◌≡◌, ◌≤◌, ◌+◌, ◌*◌, ◌/◌, ◌++◌, ◌∙◌, [], ◌∷◌, ℕ, List, Bool, true, false, length, ap, sym, refl, arith, length-append, inl, inr}
 use Rattle.std.specs.Prelude.{Err, ◌&&◌}
 use Rattle.ix_message.specs.Shape.{Text}
 use Rattle.ix_message.specs.Names.{first_uses}
 use Rattle.ix_message.specs.Layout.{Laid, Section, objects, all_fit}
-use Rattle.ix_capw.specs.Growth.{written, with_object, IsSegment}
+use Rattle.ix_capw.specs.Growth.{written, IsSegment}
 use Rattle.ix_capw.specs.declared.builder.BuildFault.{BuildFault}
 use Rattle.ix_capw.specs.declared.builder.BuildFault.TheVariants.{TooLong, Memory}
 use Rattle.ix_message_write.specs.declared.string_table.Strings.{Strings}
 use Rattle.ix_message_write.specs.Table.{table_in}
-use Rattle.ix_message_write.specs.Growth.{with_objects, with_section, NoRoom}
+use Rattle.ix_message_write.specs.Growth.{with_objects, NoRoom}
 use Rattle.ix_message_write.specs.Says.{Notes, HasNoted, Puts, HasPut, Writes, HasWritten}
 use Rattle.ix_message_write.proofs.FirstUses.{first_uses-append, first_uses-longer}
 use Rattle.ix_message_write.proofs.Laid.{length-with_object, length-written}

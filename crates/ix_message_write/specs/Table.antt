@@ -10,6 +10,10 @@ use Rattle.ix_message_write.specs.declared.string_table.Strings.{Strings}
 abbrev pub name_text : List Text → ℕ → Text
 name_text names id = slice_index_or names id []
 
+-- the names of the table, in the order of their first use
+abbrev pub used_names : Strings → List ℕ
+used_names s = s.used.items
+
 -- the texts of the table
 abbrev pub table_in : List Text → Strings → List Text
 table_in names s = map (name_text names) s.used.items

@@ -4,7 +4,7 @@
 ghost use Rattle.std.specs.Prelude.{◌≡◌, ◌<◌, ◌∷◌, [], length, map, IfOk};
 ghost use Rattle.std.specs.List.{All};
 ghost use Rattle.ix_message.specs.Names.{place_in};
-ghost use Rattle.ix_message_write.specs.Table.{name_text, table_in, IsTableOf};
+ghost use Rattle.ix_message_write.specs.Table.{name_text, table_in, used_names, IsTableOf};
 ghost use Rattle.ix_message_write.specs.Says.{Notes};
 
 use ix_capw::BuildFault;
@@ -95,7 +95,7 @@ impl Strings {
 
     /// The names of the table, in order.
     pub fn used(&self) -> &[NameId]
-        ensures { result.now ≡ self.now.used.items }
+        ensures { result.now ≡ used_names self.now }
     {
         self.used.as_slice()
     }

@@ -1,11 +1,11 @@
 -- Trees that are walked in preorder: at each depth the trees that are still to come.
-use Rattle.std.proofs.Common.{◌≡◌, ◌<◌, ◌≤◌, ◌+◌, ◌∙◌, ◌++◌, ℕ, zero, suc, true, false, List, [], ◌∷◌, length, take, drop, ap, arith, sym, subst, refl, inl, inr, ◌⊎◌, append_assoc}
+use Rattle.std.proofs.Common.{◌≡◌, ◌<◌, ◌≤◌, ◌+◌, ◌∙◌, ◌++◌, ℕ, zero, suc, true, false, List, [], ◌∷◌, map, length, take, drop, ap, arith, sym, subst, refl, inl, inr, ◌⊎◌, append_assoc}
 use Rattle.std.specs.Prelude.{nat_lt, Some, slice_get}
 use Rattle.std.specs.List.{flat_map}
 use Rattle.std.proofs.lemmas.Bool.{lt-ltb, le-ltb, cases_lt}
 use Rattle.std.proofs.lemmas.List.{append-nil, map-append, take-append-drop, length-map, length-take-le, take_more}
 use Rattle.std.proofs.lemmas.Option.{get_or_from_slice_get}
-use Rattle.ix_message.specs.Shape.{Text, Branches, ends, branch}
+use Rattle.ix_message.specs.Shape.{Text, Branches, ends, branch, preorder}
 use Rattle.ix_message.specs.Names.{Datum, text_in, branch_uses, branches_map}
 use Rattle.ix_rec.specs.declared.forest.Branch.{Branch}
 use Rattle.ix_rec.specs.Forest.{StepsWithin, limit_after, depths, IsPreorder, next_limit}
@@ -138,3 +138,32 @@ pub steps_behind : {A : Type 0} (bs : List (Branch A)) (i : ℕ) (b : Branch A) 
 steps_behind {A} bs i b h lt is =
     let parts : depths (take (i + 1) bs) ++ depths (drop (i + 1) bs) ≡ depths bs = sym (map-append (λ (b : Branch A). b.depth) (take (i + 1) bs) (drop (i + 1) bs)) ∙ ap depths (take-append-drop (i + 1) bs) in
     subst (λ (k : ℕ). StepsWithin k (depths (drop (i + 1) bs))) (limit_next bs i b lt is) (steps_back 0 (depths (take (i + 1) bs)) (depths (drop (i + 1) bs)) (subst (StepsWithin 0) (sym parts) h))
+
+-- ---- the trees have their list as their preorder
+
+unfoldable pub preorder_step : {A : Type 0} → ℕ → Branches A → List (ℕ × A) → List (ℕ × A)
+preorder_step k t x = x ++ preorder k t
+
+preorder_pass : {A : Type 0} → Passes {A = A} {X = List (ℕ × A)} preorder_step
+unfolding preorder_step
+preorder_pass k x = append-nil x
+
+preorder_all : {A : Type 0} (limit : ℕ) (bs : List (Branch A)) (x : List (ℕ × A)) → StepsWithin limit (depths bs)
+    → run preorder_step (suc limit) bs x ≡ x ++ map (λ b. (b.depth, b.item)) bs
+unfolding preorder_step
+preorder_all limit [] x h = run_none preorder_step preorder_pass (suc limit) x ∙ sym (append-nil x)
+preorder_all {A} limit (b ∷ bs) x h =
+    let d = b.depth in
+    let own : List (ℕ × A) = (d, b.item) ∷ [] in
+    let t1 = trees_at (suc d) bs in
+    let t2 = trees_at d bs in
+    let next : d + 1 ≡ suc d = omega arith in
+    let h1 : StepsWithin (suc d) (depths bs) = subst (λ (k : ℕ). StepsWithin k (depths bs)) next h.1 in
+    let step : x ++ (own ++ (preorder (d + 1) t1 ++ preorder d t2)) ≡ ((x ++ own) ++ preorder (suc d) t1) ++ preorder d t2 =
+    ap (λ (k : ℕ). x ++ (own ++ (preorder k t1 ++ preorder d t2))) next ∙ sym (append_assoc x own (preorder (suc d) t1 ++ preorder d t2)) ∙ sym (append_assoc (x ++ own) (preorder (suc d) t1) (preorder d t2)) in
+    run_step preorder_step preorder_step preorder_pass (suc limit) b bs x (x ++ own) (omega (arith, h.0)) (λ j lt t z. refl) step
+    ∙ preorder_all (suc d) bs (x ++ own) h1 ∙ append_assoc x own (map (λ (b : Branch A). (b.depth, b.item)) bs)
+
+pub trees_in_preorder : {A : Type 0} (bs : List (Branch A)) → IsPreorder bs → preorder 0 (trees_at 0 bs) ≡ map (λ b. (b.depth, b.item)) bs
+unfolding run preorder_step
+trees_in_preorder bs h = preorder_all 0 bs [] h

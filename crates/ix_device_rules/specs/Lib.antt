@@ -1,2 +1,6 @@
 pub mod Rules
 pub mod Ranges
+pub mod Kinds
+pub mod Walks
+pub mod Tables
+pub mod Named

@@ -1,0 +1,66 @@
+-- Keys of tables, and the names that they stand for.
+use Rattle.std.proofs.Common.{◌≡◌, ℕ, ◌+◌, ◌<◌, Bool, true, false, not, ◌&&◌, ◌||◌, nat_eq, List, [], ◌∷◌, ◌++◌, length, take, map, slice_get, Some, refl, sym, ap, subst, ◌∙◌, arith, if◌then◌else◌, ◌⊎◌, inl, inr}
+use Rattle.std.specs.List.{list_any}
+use Rattle.std.proofs.lemmas.Bool.Decides.{nat_tests}
+use Rattle.ix_keys.specs.declared.key.Key.{Key}
+use Rattle.ix_keys.specs.Keys.{key, name_key, key_eq, has_key, with_key}
+use Rattle.ix_device_rules.specs.Tables.{SameKeys}
+use Rattle.ix_device_rules.proofs.Steps.{up_to}
+
+alike : (a b : Key) → key_eq a b ≡ true → a ≡ b
+alike a b h =
+    let owners : a.owner ≡ b.owner = grind (arith, nat_tests) in
+    let parts : a.part ≡ b.part = grind (arith, nat_tests) in
+    let names : a.name ≡ b.name = grind (arith, nat_tests) in
+    (λ i. key (owners i) (parts i) (names i))
+
+pub either : (b : Bool) → (b ≡ true) ⊎ (b ≡ false)
+either true = inl refl
+either false = inr refl
+
+or_false : (b : Bool) → b ≡ (b || false)
+or_false true = refl
+or_false false = refl
+
+or_assoc : (a b c : Bool) → (a || (b || c)) ≡ ((a || b) || c)
+or_assoc true b c = refl
+or_assoc false b c = refl
+
+-- a key that is already there adds none
+known_adds_none : (keys : List Key) (k j : Key) → has_key keys k ≡ true → has_key keys j ≡ (has_key keys j || key_eq j k)
+known_adds_none keys k j known = elim (either (key_eq j k)) [
+    | inl same ↦ (let at : has_key keys j ≡ true = ap (has_key keys) (alike j k same) ∙ known in at ∙ sym (ap (λ b. b || key_eq j k) at))
+    | inr other ↦ or_false (has_key keys j) ∙ sym (ap (λ b. has_key keys j || b) other)
+  ]
+
+has_key-push : (keys : List Key) (k j : Key) → has_key (keys ++ k ∷ []) j ≡ (has_key keys j || key_eq j k)
+has_key-push [] k j = sym (or_false (key_eq j k))
+has_key-push (x ∷ xs) k j = ap (λ b. key_eq j x || b) (has_key-push xs k j) ∙ or_assoc (key_eq j x) (has_key xs j) (key_eq j k)
+
+pub has_key-with_key : (keys : List Key) (k j : Key) → has_key (with_key keys k) j ≡ (has_key keys j || key_eq j k)
+has_key-with_key keys k j = elim (either (has_key keys k)) [
+    | inl known ↦ ap (λ (b : Bool). has_key (if b then keys else keys ++ k ∷ []) j) known ∙ known_adds_none keys k j known
+    | inr unknown ↦ ap (λ (b : Bool). has_key (if b then keys else keys ++ k ∷ []) j) unknown ∙ has_key-push keys k j
+  ]
+
+pub same_more : {A : Type 0} (f : A → Key) (xs : List A) (i : ℕ) (x : A) (old new : List Key) → slice_get xs i ≡ Some x → SameKeys old (map f (take i xs)) → new ≡ with_key old (f x) → SameKeys new (map f (take (i + 1) xs))
+same_more f xs i x old new at h is = record { same = λ k.
+    ap (λ t. has_key t k) is ∙ has_key-with_key old (f x) k ∙ ap (λ b. b || key_eq k (f x)) (h.same k)
+    ∙ sym (has_key-push (map f (take i xs)) (f x) k) ∙ ap (λ t. has_key t k) (sym (map-push f (take i xs) x) ∙ ap (map f) (sym (up_to xs i x at))) }
+  where
+    map-push : {A B : Type 0} (g : A → B) (ys : List A) (y : A) → map g (ys ++ y ∷ []) ≡ map g ys ++ g y ∷ []
+    map-push g [] y = refl
+    map-push g (z ∷ ys) y = ap (λ zs. g z ∷ zs) (map-push g ys y)
+
+pub list_any-map : {A B : Type 0} (test : B → Bool) (f : A → B) (xs : List A) → list_any test (map f xs) ≡ list_any (λ x. test (f x)) xs
+list_any-map test f [] = refl
+list_any-map test f (x ∷ xs) = ap (λ b. test (f x) || b) (list_any-map test f xs)
+
+-- a name is new among those that a table has
+pub new_name : {A : Type 0} (f : A → ℕ) (xs : List A) (n : ℕ) (table : List Key) → SameKeys table (map (λ x. name_key (f x)) xs) → not (has_key table (name_key n)) ≡ not (list_any (nat_eq n) (map f xs))
+new_name f xs n table h =
+    ap not (h.same (name_key n) ∙ list_any-map (key_eq (name_key n)) (λ x. name_key (f x)) xs ∙ sym (list_any-map (nat_eq n) f xs))
+
+-- an empty table
+pub same_none : (table : List Key) → table ≡ [] → SameKeys table []
+same_none table is = record { same = λ k. ap (λ t. has_key t k) is }

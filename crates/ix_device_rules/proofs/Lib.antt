@@ -1,3 +1,4 @@
 pub mod Steps
 pub mod TableLemmas
 pub mod LoopFacts
+pub mod NameLemmas

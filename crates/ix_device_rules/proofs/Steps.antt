@@ -2,6 +2,7 @@
 use Rattle.std.proofs.Common.{◌≡◌, ℕ, ◌+◌, ◌<◌, ◌≤◌, suc, zero, Bool, true, false, not, List, [], ◌∷◌, ◌++◌, length, take, drop, map, slice_get, Some, None, Option, Result, Ok, Err, refl, sym, ap, subst, ◌∙◌, append_assoc, arith}
 use Prim.Native.String.{String}
 use Rattle.std.proofs.lemmas.List.{append-nil, take-append-drop, take_more, take_all}
+use Rattle.std.proofs.lemmas.Grind.{flat_map-append}
 use Rattle.std.proofs.lemmas.Option.{slice_get_within, get_or_from_slice_get}
 use Rattle.std.specs.List.{flat_map}
 use Rattle.ix_message.specs.Indexes.{Step, begun, asked, Item}
@@ -48,6 +49,9 @@ walks_then {x = x} {xs = xs} {ys = ys} {a = a} {b = b} {c = c} {r = r} h k = rec
 pub walks_stop : {X Y : Type 0} {e : Stop} {xs : List Step} (ys : List Step) {a b : List ℕ} (c : List ℕ) → Walks {X = X} xs a (Err e) b → Walks {X = Y} (xs ++ ys) a (Err e) c
 walks_stop {X = X} {Y = Y} {e = e} {xs = xs} ys {a = a} {b = b} c h = record { tells = subst (Tells {X = Y} (Err e) c) (sym (walked-append xs ys a)) (tells_stop X Y e b c (walked xs a) ys h.tells) }
 
+pub stops_too : {X : Type 0} {e : Stop} {xs : List Step} (ys : List Step) {a b : List ℕ} → Walks {X = X} xs a (Err e) b → Walks {X = X} (xs ++ ys) a (Err e) b
+stops_too {X = X} ys {b = b} h = walks_stop {X = X} {Y = X} ys b h
+
 pub walks_first : {X Y : Type 0} {x : X} {s : Step} {ys : List Step} {a b c : List ℕ} {r : Result Y Stop} → Walks (s ∷ []) a (Ok x) b → Walks ys b r c → Walks (s ∷ ys) a r c
 walks_first {s = s} {ys = ys} h k = walks_then {xs = s ∷ []} {ys = ys} h k
 
@@ -55,11 +59,15 @@ pub walks_stop_first : {X Y : Type 0} {e : Stop} {s : Step} (ys : List Step) {a 
 walks_stop_first {s = s} ys c h = walks_stop {xs = s ∷ []} ys c h
 
 -- the answer to a question, told in another way
-pub asked_as : {X : Type 0} {kind field : String} {fits shown : Bool} {a b : List ℕ} {r : Result X Stop} → fits ≡ shown → Walks (asked kind field fits ∷ []) a r b → Walks (asked kind field shown ∷ []) a r b
-asked_as {kind = kind} {field = field} {a = a} {b = b} {r = r} same h = subst (λ f. Walks (asked kind field f ∷ []) a r b) same h
+pub asked_as : {X : Type 0} {kind field : String} {rest : List Step} {fits shown : Bool} {a b : List ℕ} {r : Result X Stop} → fits ≡ shown → Walks (asked kind field fits ∷ rest) a r b → Walks (asked kind field shown ∷ rest) a r b
+asked_as {kind = kind} {field = field} {rest = rest} {a = a} {b = b} {r = r} same h = subst (λ f. Walks (asked kind field f ∷ rest) a r b) same h
 
-pub entered_as : {X : Type 0} {kind field : String} {fits shown : Bool} {a b : List ℕ} {r : Result X Stop} → fits ≡ shown → Walks (begun kind ∷ asked kind field fits ∷ []) a r b → Walks (begun kind ∷ asked kind field shown ∷ []) a r b
-entered_as {kind = kind} {field = field} {a = a} {b = b} {r = r} same h = subst (λ f. Walks (begun kind ∷ asked kind field f ∷ []) a r b) same h
+pub entered_as : {X : Type 0} {kind field : String} {rest : List Step} {fits shown : Bool} {a b : List ℕ} {r : Result X Stop} → fits ≡ shown → Walks (begun kind ∷ asked kind field fits ∷ rest) a r b → Walks (begun kind ∷ asked kind field shown ∷ rest) a r b
+entered_as {kind = kind} {field = field} {rest = rest} {a = a} {b = b} {r = r} same h = subst (λ f. Walks (begun kind ∷ asked kind field f ∷ rest) a r b) same h
+
+-- the steps, told in another way
+pub walks_as : {X : Type 0} {xs ys : List Step} {a b : List ℕ} {r : Result X Stop} → xs ≡ ys → Walks xs a r b → Walks ys a r b
+walks_as {a = a} {b = b} {r = r} same h = subst (λ l. Walks l a r b) same h
 
 -- The items of a list up to one, and it, and the rest.
 
@@ -130,3 +138,11 @@ module _ {A : Type 0} (f : A → List Step) (xs : List A) where
 
   pub flat_done : {X : Type 0} {y : X} {a b : List ℕ} (i : ℕ) → length xs ≤ i → Walks (flat_map f (take i xs)) a (Ok y) b → Walks (flat_map f xs) a (Ok y) b
   flat_done {y = y} {a = a} {b = b} i past h = subst (λ l. Walks (flat_map f l) a (Ok y) b) (take_all i xs past) h
+
+pub by_earlier-same : {A B : Type 0} (f g : List A → A → List B) → ((before : List A) (x : A) → f before x ≡ g before x) → (before xs : List A) → by_earlier f before xs ≡ by_earlier g before xs
+unfolding by_earlier
+by_earlier-same f g same before [] = refl
+by_earlier-same f g same before (x ∷ xs) = (λ i. same before x i ++ by_earlier-same f g same (before ++ x ∷ []) xs i)
+
+pub flat_up_to : {A B : Type 0} (f : A → List B) (xs : List A) (i : ℕ) (x : A) → slice_get xs i ≡ Some x → flat_map f (take (i + 1) xs) ≡ flat_map f (take i xs) ++ f x
+flat_up_to f xs i x at = ap (flat_map f) (up_to xs i x at) ∙ flat_map-append f (take i xs) (x ∷ []) ∙ ap (λ l. flat_map f (take i xs) ++ l) (append-nil (f x))

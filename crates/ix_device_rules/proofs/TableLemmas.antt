@@ -1,11 +1,13 @@
 -- Keys of tables, and the names that they stand for.
-use Rattle.std.proofs.Common.{◌≡◌, ℕ, ◌+◌, ◌<◌, Bool, true, false, not, ◌&&◌, ◌||◌, nat_eq, List, [], ◌∷◌, ◌++◌, length, take, map, slice_get, Some, refl, sym, ap, subst, ◌∙◌, arith, if◌then◌else◌, ◌⊎◌, inl, inr}
+use Rattle.std.proofs.Common.{◌≡◌, ℕ, ◌+◌, ◌<◌, Bool, true, false, not, ◌&&◌, ◌||◌, nat_eq, List, [], ◌∷◌, ◌++◌, length, take, map, slice_get, Some, refl, sym, ap, subst, ◌∙◌, arith, append_assoc, if◌then◌else◌, ◌⊎◌, inl, inr}
 use Rattle.std.specs.List.{list_any}
 use Rattle.std.proofs.lemmas.Bool.Decides.{nat_tests}
 use Rattle.ix_keys.specs.declared.key.Key.{Key}
 use Rattle.ix_keys.specs.Keys.{key, name_key, key_eq, has_key, with_key}
 use Rattle.ix_device_rules.specs.Tables.{SameKeys}
 use Rattle.ix_device_rules.proofs.Steps.{up_to}
+use Rattle.std.proofs.lemmas.List.{append-nil, map-append}
+use Rattle.std.proofs.lemmas.List.Folds.{list_any-append}
 
 alike : (a b : Key) → key_eq a b ≡ true → a ≡ b
 alike a b h =
@@ -64,3 +66,37 @@ new_name f xs n table h =
 -- an empty table
 pub same_none : (table : List Key) → table ≡ [] → SameKeys table []
 same_none table is = record { same = λ k. ap (λ t. has_key t k) is }
+
+pub same_push : (old new keys : List Key) (k : Key) → SameKeys old keys → new ≡ with_key old k → SameKeys new (keys ++ k ∷ [])
+same_push old new keys k h is = record { same = λ j. ap (λ t. has_key t j) is ∙ has_key-with_key old k j ∙ ap (λ b. b || key_eq j k) (h.same j) ∙ sym (has_key-push keys k j) }
+
+pub same_as : {table keys others : List Key} → keys ≡ others → SameKeys table keys → SameKeys table others
+same_as {table = table} is h = subst (λ ks. SameKeys table ks) is h
+
+-- a table to which the keys of some items were added, behind those that it had
+pub same_begin : (base : List Key) → SameKeys base (base ++ [])
+same_begin base = record { same = λ k. ap (λ t. has_key t k) (sym (append-nil base)) }
+
+pub same_on : {A : Type 0} (f : A → Key) (base : List Key) (xs : List A) (i : ℕ) (x : A) (old new : List Key) → slice_get xs i ≡ Some x → SameKeys old (base ++ map f (take i xs)) → new ≡ with_key old (f x) → SameKeys new (base ++ map f (take (i + 1) xs))
+same_on f base xs i x old new at h is =
+    same_as (append_assoc base (map f (take i xs)) (f x ∷ []) ∙ ap (λ ks. base ++ ks) (sym (map-append f (take i xs) (x ∷ [])) ∙ ap (map f) (sym (up_to xs i x at)))) (same_push old new (base ++ map f (take i xs)) (f x) h is)
+
+pub same_join : (old new keys added : List Key) → SameKeys old keys → SameKeys new (old ++ added) → SameKeys new (keys ++ added)
+same_join old new keys added h k = record { same = λ j. k.same j ∙ list_any-append (key_eq j) old added ∙ ap (λ b. b || has_key added j) (h.same j) ∙ sym (list_any-append (key_eq j) keys added) }
+
+-- keys that are in a table or among others
+pub has_either : (base added : List Key) (table : List Key) (k : Key) → SameKeys table (base ++ added) → not (has_key table k) ≡ not (has_key base k || has_key added k)
+has_either base added table k h = ap not (h.same k ∙ list_any-append (key_eq k) base added)
+
+pub nat_eq-sym : (a b : ℕ) → nat_eq a b ≡ nat_eq b a
+nat_eq-sym a b = grind (arith, nat_tests)
+
+pub list_any-same : {A : Type 0} (f g : A → Bool) → ((x : A) → f x ≡ g x) → (xs : List A) → list_any f xs ≡ list_any g xs
+list_any-same f g same [] = refl
+list_any-same f g same (x ∷ xs) = (λ i. same x i || list_any-same f g same xs i)
+
+pub not_both : (a b : Bool) → (not b || not a) ≡ not (a && b)
+not_both true true = refl
+not_both true false = refl
+not_both false true = refl
+not_both false false = refl

@@ -9,11 +9,14 @@ use Rattle.ix_device_rules.specs.Rules.{has_bel, has_pin}
 pub record SameKeys (table keys : List Key) : Type 0 where
   pub same : (k : Key) → has_key table k ≡ has_key keys k
 
--- the tables have the BELs and the BEL pins of this site type under its number
-pub record KnowsSiteType (bel_table pin_table : List Key) (number : ℕ) (t : SiteType) : Type 0 where
-  pub bels : (bel : ℕ) → has_key bel_table (key number 0 bel) ≡ has_bel t bel
-  pub pins : (bel pin : ℕ) → has_key pin_table (key number bel pin) ≡ has_pin t bel pin
+-- the table has the BELs of this site type under its number
+abbrev pub KnowsBels : List Key → ℕ → SiteType → Type 0
+KnowsBels table number t = (bel : ℕ) → has_key table (key number 0 bel) ≡ has_bel t bel
 
--- the tables have the BELs and the BEL pins of all these site types
-abbrev pub KnowsSiteTypes : List Key → List Key → List SiteType → Type 0
-KnowsSiteTypes bels pins types = (number : ℕ) (t : SiteType) → slice_get types number ≡ Some t → KnowsSiteType bels pins number t
+-- the table has the BEL pins of this site type under its number
+abbrev pub KnowsPins : List Key → ℕ → SiteType → Type 0
+KnowsPins table number t = (bel pin : ℕ) → has_key table (key number bel pin) ≡ has_pin t bel pin
+
+-- the table knows each thing of a list under its place
+abbrev pub EachKnown : {A : Type 0} → (List Key → ℕ → A → Type 0) → List Key → List A → Type 0
+EachKnown {A} Knows table xs = (number : ℕ) (x : A) → slice_get xs number ≡ Some x → Knows table number x

@@ -3,5 +3,7 @@
 
 mod kinds;
 mod named;
+mod names_differ;
+mod number;
 mod stop;
 mod walk;

@@ -1,5 +1,7 @@
 //! Lists whose items have names.
 
+ghost use Rattle.std.specs.Prelude.{◌≡◌};
+ghost use Rattle.ix_keys.specs.Keys.{name_key};
 ghost use Rattle.ix_device_rules.specs.Kinds.{kind_name, field_name};
 ghost use Rattle.ix_device_rules.specs.Named.{name_is_new};
 ghost use Rattle.ix_device_rules.specs.Rules.{each_by_earlier};
@@ -11,6 +13,13 @@ use crate::walk::Walk;
 use ix_keys::{Key, Keys};
 use ix_num::NameId;
 use ix_rec::{Bel, CellBelMapping, Items, SitePin};
+
+/// The key of a name alone.
+pub fn key_of(name: NameId) -> Key
+    ensures { result ≡ name_key name }
+{
+    Key::of_name(name.get())
+}
 
 /// What has a name.
 pub trait Named {

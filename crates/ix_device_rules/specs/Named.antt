@@ -17,3 +17,7 @@ site_key s = name_key s.name
 -- a site begins, whose name is to be none of these and none of the sites' before
 abbrev pub site_is_new : List Key → List Site → Site → List Step
 site_is_new names before s = begun "Site" ∷ asked "Site" "name" (not (has_key names (site_key s) || has_key (map site_key before) (site_key s))) ∷ []
+
+-- a pin of a site wire, which is to be none of these and none of those before
+abbrev pub pin_is_new : List Key → List ℕ → ℕ → List Step
+pin_is_new seen before p = asked "SiteWire" "pins" (not (has_key seen (name_key p) || has_key (map (λ q. name_key q) before) (name_key p))) ∷ []

@@ -5,5 +5,7 @@ mod kinds;
 mod named;
 mod names_differ;
 mod number;
+mod pins_have_bels;
+mod pins_on_one_wire;
 mod stop;
 mod walk;

@@ -2,3 +2,5 @@ pub mod Steps
 pub mod TableLemmas
 pub mod LoopFacts
 pub mod NameLemmas
+pub mod WireLemmas
+pub mod SizeLemmas

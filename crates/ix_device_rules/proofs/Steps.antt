@@ -65,6 +65,12 @@ asked_as {kind = kind} {field = field} {rest = rest} {a = a} {b = b} {r = r} sam
 pub entered_as : {X : Type 0} {kind field : String} {rest : List Step} {fits shown : Bool} {a b : List ℕ} {r : Result X Stop} → fits ≡ shown → Walks (begun kind ∷ asked kind field fits ∷ rest) a r b → Walks (begun kind ∷ asked kind field shown ∷ rest) a r b
 entered_as {kind = kind} {field = field} {rest = rest} {a = a} {b = b} {r = r} same h = subst (λ f. Walks (begun kind ∷ asked kind field f ∷ rest) a r b) same h
 
+-- what is asked fits where the walk goes on
+pub entered_fits : {X : Type 0} (x : X) (kind field : String) (rest : List Step) (fits : Bool) (a b : List ℕ) → Walks (begun kind ∷ asked kind field fits ∷ rest) a (Ok x) b → fits ≡ true
+unfolding walked
+entered_fits x kind field rest true a b h = refl
+entered_fits x kind field rest false a b h = let e = h.tells in absurd (cc)
+
 -- the steps, told in another way
 pub walks_as : {X : Type 0} {xs ys : List Step} {a b : List ℕ} {r : Result X Stop} → xs ≡ ys → Walks xs a r b → Walks ys a r b
 walks_as {a = a} {b = b} {r = r} same h = subst (λ l. Walks l a r b) same h

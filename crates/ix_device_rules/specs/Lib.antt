@@ -4,3 +4,4 @@ pub mod Kinds
 pub mod Walks
 pub mod Tables
 pub mod Named
+pub mod Sizes

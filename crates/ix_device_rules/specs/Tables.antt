@@ -1,5 +1,8 @@
 -- What tables of keys say of a device.
-use Rattle.std.specs.Prelude.{◌≡◌, ℕ, List, slice_get, Some}
+use Rattle.std.specs.Prelude.{◌≡◌, ℕ, List, [], ◌∷◌, nat_eq, slice_get, Some}
+use Rattle.std.specs.List.{list_any}
+use Rattle.ix_message.specs.Indexes.{Step, asked}
+use Rattle.ix_rec.specs.declared.device.TileType.{TileType}
 use Rattle.ix_rec.specs.declared.device.SiteType.{SiteType}
 use Rattle.ix_keys.specs.declared.key.Key.{Key}
 use Rattle.ix_keys.specs.Keys.{key, has_key}
@@ -16,6 +19,14 @@ KnowsBels table number t = (bel : ℕ) → has_key table (key number 0 bel) ≡ 
 -- the table has the BEL pins of this site type under its number
 abbrev pub KnowsPins : List Key → ℕ → SiteType → Type 0
 KnowsPins table number t = (bel pin : ℕ) → has_key table (key number bel pin) ≡ has_pin t bel pin
+
+-- the table has the wires of this tile type under its number
+abbrev pub KnowsWires : List Key → ℕ → TileType → Type 0
+KnowsWires table number t = (wire : ℕ) → has_key table (key number 0 wire) ≡ list_any (nat_eq wire) t.wires
+
+-- a name is to be that of a wire of the tile type of this number
+abbrev pub wire_is_there : List Key → ℕ → ℕ → List Step
+wire_is_there table number wire = asked "SiteTypeInTileType" "primaryPinsToTileWires" (has_key table (key number 0 wire)) ∷ []
 
 -- the table knows each thing of a list under its place
 abbrev pub EachKnown : {A : Type 0} → (List Key → ℕ → A → Type 0) → List Key → List A → Type 0

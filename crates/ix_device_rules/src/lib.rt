@@ -7,5 +7,8 @@ mod names_differ;
 mod number;
 mod pins_have_bels;
 mod pins_on_one_wire;
+mod site_pins_have_wires;
+mod size;
 mod stop;
+mod tiles_are_few;
 mod walk;

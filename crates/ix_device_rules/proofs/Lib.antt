@@ -4,3 +4,5 @@ pub mod LoopFacts
 pub mod NameLemmas
 pub mod WireLemmas
 pub mod SizeLemmas
+pub mod PartLemmas
+pub mod TileWireLemmas

@@ -1,20 +1,14 @@
 -- Keys of tables, and the names that they stand for.
 use Rattle.std.proofs.Common.{◌≡◌, ℕ, ◌+◌, ◌<◌, Bool, true, false, not, ◌&&◌, ◌||◌, nat_eq, List, [], ◌∷◌, ◌++◌, length, take, map, slice_get, Some, refl, sym, ap, subst, ◌∙◌, arith, append_assoc, if◌then◌else◌, ◌⊎◌, inl, inr}
-use Rattle.std.specs.List.{list_any}
+use Rattle.std.specs.List.{list_any, flat_map}
 use Rattle.std.proofs.lemmas.Bool.Decides.{nat_tests}
 use Rattle.ix_keys.specs.declared.key.Key.{Key}
+use Rattle.ix_keys.proofs.KeyLemmas.{alike}
 use Rattle.ix_keys.specs.Keys.{key, name_key, key_eq, has_key, with_key}
 use Rattle.ix_device_rules.specs.Tables.{SameKeys}
-use Rattle.ix_device_rules.proofs.Steps.{up_to}
+use Rattle.ix_device_rules.proofs.Steps.{up_to, flat_up_to}
 use Rattle.std.proofs.lemmas.List.{append-nil, map-append}
 use Rattle.std.proofs.lemmas.List.Folds.{list_any-append}
-
-alike : (a b : Key) → key_eq a b ≡ true → a ≡ b
-alike a b h =
-    let owners : a.owner ≡ b.owner = grind (arith, nat_tests) in
-    let parts : a.part ≡ b.part = grind (arith, nat_tests) in
-    let names : a.name ≡ b.name = grind (arith, nat_tests) in
-    (λ i. key (owners i) (parts i) (names i))
 
 pub either : (b : Bool) → (b ≡ true) ⊎ (b ≡ false)
 either true = inl refl
@@ -100,3 +94,16 @@ not_both true true = refl
 not_both true false = refl
 not_both false true = refl
 not_both false false = refl
+
+pub same_is : (table keys : List Key) → table ≡ keys → SameKeys table keys
+same_is table keys is = record { same = λ k. ap (λ t. has_key t k) is }
+
+-- a new key goes last
+pub exact_more : {A : Type 0} (f : A → Key) (xs : List A) (i : ℕ) (x : A) (old new : List Key) (k : Key) (is_new : Bool) → slice_get xs i ≡ Some x → old ≡ map f (take i xs) → new ≡ with_key old k → k ≡ f x → is_new ≡ not (has_key old k) → is_new ≡ true → new ≡ map f (take (i + 1) xs)
+exact_more f xs i x old new k is_new at so_far is key_is told fits =
+    let unknown : has_key old k ≡ false = grind (arith, nat_tests) in
+    is ∙ ap (λ (b : Bool). if b then old else old ++ k ∷ []) unknown ∙ (λ j. so_far j ++ key_is j ∷ []) ∙ sym (map-append f (take i xs) (x ∷ [])) ∙ ap (map f) (sym (up_to xs i x at))
+
+pub same_flat_on : {A : Type 0} (f : A → List Key) (base : List Key) (xs : List A) (i : ℕ) (x : A) (old new : List Key) → slice_get xs i ≡ Some x → SameKeys old (base ++ flat_map f (take i xs)) → SameKeys new (old ++ f x) → SameKeys new (base ++ flat_map f (take (i + 1) xs))
+same_flat_on f base xs i x old new at h more =
+    same_as (append_assoc base (flat_map f (take i xs)) (f x) ∙ ap (λ ks. base ++ ks) (sym (flat_up_to f xs i x at))) (same_join old new (base ++ flat_map f (take i xs)) (f x) h more)

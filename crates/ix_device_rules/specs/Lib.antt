@@ -5,3 +5,4 @@ pub mod Walks
 pub mod Tables
 pub mod Named
 pub mod Sizes
+pub mod TileWires

@@ -10,5 +10,7 @@ mod pins_on_one_wire;
 mod site_pins_have_wires;
 mod size;
 mod stop;
+mod tables;
 mod tiles_are_few;
 mod walk;
+mod wires_stand;

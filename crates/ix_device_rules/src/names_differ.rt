@@ -3,7 +3,7 @@
 ghost use Rattle.std.specs.Prelude.{◌≡◌, [], ◌∷◌, ◌++◌, map, OnOk};
 ghost use Rattle.ix_message.specs.Indexes.{begun, asked};
 ghost use Rattle.ix_keys.specs.Keys.{key};
-ghost use Rattle.ix_device_rules.specs.Named.{site_key, site_is_new};
+ghost use Rattle.ix_device_rules.specs.Named.{site_key, site_is_new, tile_key};
 ghost use Rattle.ix_device_rules.specs.Rules.{each_by_earlier, bel_pin_names, site_pin_names, bel_names, wire_names, tile_type_names, site_type_names, tile_names, names_differ as all_names_differ};
 ghost use Rattle.ix_device_rules.specs.Tables.{KnowsBels, EachKnown, SameKeys};
 ghost use Rattle.ix_device_rules.specs.Walks.{Walks};
@@ -167,11 +167,12 @@ fn tile_differs(
     }
 }
 
-/// The names of tiles differ, and those of sites over all tiles.
-fn tiles_differ(tiles: &Items<Tile>, walk: &mut Walk) -> Result<(), Stop>
-    ensures { Walks (each_by_earlier tile_names tiles.now) walk.old result walk.new }
+/// The names of tiles differ, and those of sites over all tiles. The tiles' names are left in the table.
+fn tiles_differ(tiles: &Items<Tile>, names: &mut Keys, walk: &mut Walk) -> Result<(), Stop>
+    requires { names.old ≡ [] }
+    ensures walks { Walks (each_by_earlier tile_names tiles.now) walk.old result walk.new }
+    ensures names { OnOk result (names.new ≡ map tile_key tiles.now) }
 {
-    let mut names = Keys::new(walk.alloc());
     let mut site_names = Keys::new(walk.alloc());
     for i in 0..tiles.len() {
         let tile = tiles.at(i);
@@ -187,11 +188,17 @@ fn tiles_differ(tiles: &Items<Tile>, walk: &mut Walk) -> Result<(), Stop>
 }
 
 /// The names differ of site types, tiles, sites and cells, of the BELs and pins of a site type, of the pins of a BEL and
-/// of the wires of a tile type.
-#[tactic(auto, unfolding(crate::specs::Rules::names_differ))]
-pub fn names_differ(rec: &DeviceRec, bels: &Keys, walk: &mut Walk) -> Result<(), Stop>
-    requires { EachKnown KnowsBels bels.now rec.now.site_type_list }
-    ensures { Walks (all_names_differ rec.now) walk.old result walk.new }
+/// of the wires of a tile type. The tiles' names are left in the table, each at its tile's place.
+pub fn names_differ(
+    rec: &DeviceRec,
+    bels: &Keys,
+    tiles: &mut Keys,
+    walk: &mut Walk,
+) -> Result<(), Stop>
+    requires bels { EachKnown KnowsBels bels.now rec.now.site_type_list }
+    requires tiles { tiles.old ≡ [] }
+    ensures walks { Walks (all_names_differ rec.now) walk.old result walk.new }
+    ensures tiles { OnOk result (tiles.new ≡ map tile_key rec.now.tile_list) }
 {
     match site_types_differ(&rec.site_type_list, bels, walk) {
         Ok(()) => {}
@@ -201,7 +208,7 @@ pub fn names_differ(rec: &DeviceRec, bels: &Keys, walk: &mut Walk) -> Result<(),
         Ok(()) => {}
         Err(stop) => return Err(stop),
     }
-    match tiles_differ(&rec.tile_list, walk) {
+    match tiles_differ(&rec.tile_list, tiles, walk) {
         Ok(()) => {}
         Err(stop) => return Err(stop),
     }

@@ -11,18 +11,18 @@ use Rattle.ix_device_rules.proofs.Steps.{walks_none, walks_then, walks_stop, sto
 use Rattle.ix_device_rules.proofs.TableLemmas.{same_none, same_more, same_as, same_begin, same_on, same_push, same_join, has_either, not_both, new_name}
 use Rattle.ix_device_rules.proofs.names_differ.names_differ.Goals as goal
 
-pub returns-in-Err : goal.returns-in-Err
+pub returns-in-Err-clause-walks : goal.returns-in-Err-clause-walks
 unfolding Rules.names_differ
-returns-in-Err c = stops_too (Rules.each_by_earlier Rules.cell_names c.args.rec.now.cell_bel_map) (stops_too (Rules.each_by_earlier Rules.tile_names c.args.rec.now.tile_list) (stops_too (flat_map Rules.tile_type_names c.args.rec.now.tile_type_list) (c.in-Err.ensures)))
+returns-in-Err-clause-walks c = stops_too (Rules.each_by_earlier Rules.cell_names c.args.rec.now.cell_bel_map) (stops_too (Rules.each_by_earlier Rules.tile_names c.args.rec.now.tile_list) (stops_too (flat_map Rules.tile_type_names c.args.rec.now.tile_type_list) (c.in-Err.ensures)))
 
-pub returns-in-Err-tile_types_differ : goal.returns-in-Err-tile_types_differ
+pub returns-in-Err-tile_types_differ-clause-walks : goal.returns-in-Err-tile_types_differ-clause-walks
 unfolding Rules.names_differ
-returns-in-Err-tile_types_differ c = stops_too (Rules.each_by_earlier Rules.cell_names c.args.rec.now.cell_bel_map) (stops_too (Rules.each_by_earlier Rules.tile_names c.args.rec.now.tile_list) (walks_then (c.in-Ok.ensures) (c.in-Err-tile_types_differ.ensures)))
+returns-in-Err-tile_types_differ-clause-walks c = stops_too (Rules.each_by_earlier Rules.cell_names c.args.rec.now.cell_bel_map) (stops_too (Rules.each_by_earlier Rules.tile_names c.args.rec.now.tile_list) (walks_then (c.in-Ok.ensures) (c.in-Err-tile_types_differ.ensures)))
 
-pub returns-in-Err-tiles_differ : goal.returns-in-Err-tiles_differ
+pub returns-in-Err-tiles_differ-clause-walks : goal.returns-in-Err-tiles_differ-clause-walks
 unfolding Rules.names_differ
-returns-in-Err-tiles_differ c = stops_too (Rules.each_by_earlier Rules.cell_names c.args.rec.now.cell_bel_map) (walks_then (walks_then (c.in-Ok.ensures) (c.in-Ok-tile_types_differ.ensures)) (c.in-Err-tiles_differ.ensures))
+returns-in-Err-tiles_differ-clause-walks c = stops_too (Rules.each_by_earlier Rules.cell_names c.args.rec.now.cell_bel_map) (walks_then (walks_then (c.in-Ok.ensures) (c.in-Ok-tile_types_differ.ensures)) (c.in-Err-tiles_differ.ensures.walks))
 
-pub returns : goal.returns
+pub returns-clause-walks : goal.returns-clause-walks
 unfolding Rules.names_differ
-returns c = walks_then (walks_then (walks_then (c.in-Ok.ensures) (c.in-Ok-tile_types_differ.ensures)) (c.in-Ok-tiles_differ.ensures)) (c.names_differ_in.ensures)
+returns-clause-walks c = walks_then (walks_then (walks_then (c.in-Ok.ensures) (c.in-Ok-tile_types_differ.ensures)) (c.in-Ok-tiles_differ.ensures.walks)) (c.names_differ_in.ensures)

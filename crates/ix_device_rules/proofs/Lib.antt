@@ -6,3 +6,5 @@ pub mod WireLemmas
 pub mod SizeLemmas
 pub mod PartLemmas
 pub mod TileWireLemmas
+pub mod LutLemmas
+pub mod EntryLemmas

@@ -24,7 +24,7 @@ use Rattle.ix_device_rules.proofs.WireLemmas.{map-same}
 use Rattle.std.proofs.lemmas.List.Concat.{flat_map_single}
 
 -- a key among the keys of things
-has_key-flat : {A : Type 0} (f : A → List Key) (xs : List A) (k : Key) → has_key (flat_map f xs) k ≡ list_any (λ x. has_key (f x) k) xs
+pub has_key-flat : {A : Type 0} (f : A → List Key) (xs : List A) (k : Key) → has_key (flat_map f xs) k ≡ list_any (λ x. has_key (f x) k) xs
 has_key-flat f [] k = refl
 has_key-flat f (x ∷ xs) k = list_any-append (key_eq k) (f x) (flat_map f xs) ∙ ap (λ b. has_key (f x) k || b) (has_key-flat f xs k)
 

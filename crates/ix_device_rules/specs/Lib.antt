@@ -6,3 +6,4 @@ pub mod Tables
 pub mod Named
 pub mod Sizes
 pub mod TileWires
+pub mod Luts

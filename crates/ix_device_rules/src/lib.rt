@@ -2,6 +2,8 @@
 #![tactic(auto)]
 
 mod kinds;
+mod lut_elements;
+mod lut_elements_stand;
 mod named;
 mod names_differ;
 mod number;

@@ -3,7 +3,7 @@
 ghost use Rattle.std.specs.Prelude.{◌≡◌, [], ◌∷◌, ◌++◌, map, OnOk};
 ghost use Rattle.ix_message.specs.Indexes.{begun, asked};
 ghost use Rattle.ix_keys.specs.Keys.{key};
-ghost use Rattle.ix_device_rules.specs.Named.{site_key, site_is_new, tile_key};
+ghost use Rattle.ix_device_rules.specs.Named.{site_key, site_is_new, site_type_key, tile_key};
 ghost use Rattle.ix_device_rules.specs.Rules.{each_by_earlier, bel_pin_names, site_pin_names, bel_names, wire_names, tile_type_names, site_type_names, tile_names, names_differ as all_names_differ};
 ghost use Rattle.ix_device_rules.specs.Tables.{KnowsBels, EachKnown, SameKeys};
 ghost use Rattle.ix_device_rules.specs.Walks.{Walks};
@@ -76,12 +76,18 @@ fn site_type_differs(
     names_differ_in(&site_type.bels, Kind::Bel, Field::Name, walk)
 }
 
-/// The names of site types differ, and those within each.
-fn site_types_differ(types: &Items<SiteType>, bels: &Keys, walk: &mut Walk) -> Result<(), Stop>
-    requires { EachKnown KnowsBels bels.now types.now }
-    ensures { Walks (each_by_earlier site_type_names types.now) walk.old result walk.new }
+/// The names of site types differ, and those within each. The site types' names are left in the table.
+fn site_types_differ(
+    types: &Items<SiteType>,
+    bels: &Keys,
+    names: &mut Keys,
+    walk: &mut Walk,
+) -> Result<(), Stop>
+    requires bels { EachKnown KnowsBels bels.now types.now }
+    requires names { names.old ≡ [] }
+    ensures walks { Walks (each_by_earlier site_type_names types.now) walk.old result walk.new }
+    ensures names { OnOk result (names.new ≡ map site_type_key types.now) }
 {
-    let mut names = Keys::new(walk.alloc());
     for i in 0..types.len() {
         let site_type = types.at(i);
         let Ok(number) = number_of(i) else {
@@ -188,19 +194,22 @@ fn tiles_differ(tiles: &Items<Tile>, names: &mut Keys, walk: &mut Walk) -> Resul
 }
 
 /// The names differ of site types, tiles, sites and cells, of the BELs and pins of a site type, of the pins of a BEL and
-/// of the wires of a tile type. The tiles' names are left in the table, each at its tile's place.
+/// of the wires of a tile type. The names of site types and tiles are left in their tables, each at its thing's place.
 pub fn names_differ(
     rec: &DeviceRec,
     bels: &Keys,
+    site_types: &mut Keys,
     tiles: &mut Keys,
     walk: &mut Walk,
 ) -> Result<(), Stop>
     requires bels { EachKnown KnowsBels bels.now rec.now.site_type_list }
+    requires site_types { site_types.old ≡ [] }
     requires tiles { tiles.old ≡ [] }
     ensures walks { Walks (all_names_differ rec.now) walk.old result walk.new }
+    ensures site_types { OnOk result (site_types.new ≡ map site_type_key rec.now.site_type_list) }
     ensures tiles { OnOk result (tiles.new ≡ map tile_key rec.now.tile_list) }
 {
-    match site_types_differ(&rec.site_type_list, bels, walk) {
+    match site_types_differ(&rec.site_type_list, bels, site_types, walk) {
         Ok(()) => {}
         Err(stop) => return Err(stop),
     }

@@ -8,3 +8,4 @@ pub mod PartLemmas
 pub mod TileWireLemmas
 pub mod LutLemmas
 pub mod EntryLemmas
+pub mod Counts

@@ -7,3 +7,4 @@ pub mod Named
 pub mod Sizes
 pub mod TileWires
 pub mod Luts
+pub mod Broken

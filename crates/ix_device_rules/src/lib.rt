@@ -1,6 +1,7 @@
 //! The rules of a valid device.
 #![tactic(auto)]
 
+
 mod kinds;
 mod lut_elements;
 mod lut_elements_stand;
@@ -16,3 +17,5 @@ mod tables;
 mod tiles_are_few;
 mod walk;
 mod wires_stand;
+
+

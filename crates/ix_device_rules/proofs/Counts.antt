@@ -29,7 +29,7 @@ abbrev pub Differ : List String → Type 0
 Differ [] = Unit {0}
 Differ (k ∷ ks) = (list_any (λ j. same_text (codes k) (codes j)) ks ≡ false) × Differ ks
 
-abbrev counts_in : List String → List Step → List ℕ
+abbrev pub counts_in : List String → List Step → List ℕ
 counts_in ks before = map (λ k. count_by (begins k) before) ks
 
 sum_push : {A : Type 0} (f : A → ℕ) (xs : List A) (x : A) → sum_by f (xs ++ x ∷ []) ≡ sum_by f xs + f x
@@ -53,7 +53,7 @@ others_stay (k ∷ ks) kind before none = by (same_text (codes kind) (codes k)) 
 same_others : (ks : List String) (k kind : String) → codes kind ≡ codes k → has_kind ks kind ≡ has_kind ks k
 same_others ks k kind same = ap (λ t. list_any (λ j. same_text t (codes j)) ks) same
 
-counts_more : (ks : List String) → Differ ks → (kind : String) (before : List Step) → slice_set (counts_in ks before) (place_of ks kind) (slice_index (counts_in ks before) (place_of ks kind) + 1) ≡ counts_in ks (before ++ begun kind ∷ [])
+pub counts_more : (ks : List String) → Differ ks → (kind : String) (before : List Step) → slice_set (counts_in ks before) (place_of ks kind) (slice_index (counts_in ks before) (place_of ks kind) + 1) ≡ counts_in ks (before ++ begun kind ∷ [])
 counts_more [] differ kind before = refl
 counts_more (k ∷ ks) differ kind before = by (same_text (codes kind) (codes k)) refl (counts_more ks differ.1 kind before)
   where
@@ -77,7 +77,7 @@ same_count : (k kind : String) (before : List Step) → codes kind ≡ codes k �
 unfolding begins_text
 same_count k kind before same = ap (λ t. count_by (begins_text t) before) (sym same)
 
-index_at : (ks : List String) (kind : String) (before : List Step) → has_kind ks kind ≡ true → slice_index (counts_in ks before) (place_of ks kind) ≡ count_by (begins kind) before
+pub index_at : (ks : List String) (kind : String) (before : List Step) → has_kind ks kind ≡ true → slice_index (counts_in ks before) (place_of ks kind) ≡ count_by (begins kind) before
 index_at [] kind before there = absurd (true≢false (sym there))
 index_at (k ∷ ks) kind before there = by (same_text (codes kind) (codes k)) refl there (index_at ks kind before)
   where

@@ -9,3 +9,5 @@ pub mod TileWireLemmas
 pub mod LutLemmas
 pub mod EntryLemmas
 pub mod Counts
+pub mod Unfit
+pub mod KnownSteps

@@ -3,6 +3,7 @@ use Rattle.std.specs.Prelude.{◌≡◌, ℕ, List, [], ◌∷◌, nat_eq, slice
 use Rattle.std.specs.List.{list_any}
 use Rattle.ix_message.specs.Indexes.{Step, asked}
 use Rattle.ix_rec.specs.declared.device.TileType.{TileType}
+use Rattle.ix_rec.specs.declared.device.DeviceRec.{DeviceRec}
 use Rattle.ix_rec.specs.declared.device.SiteType.{SiteType}
 use Rattle.ix_keys.specs.declared.key.Key.{Key}
 use Rattle.ix_keys.specs.Keys.{key, has_key}
@@ -31,3 +32,9 @@ wire_is_there table number wire = asked "SiteTypeInTileType" "primaryPinsToTileW
 -- the table knows each thing of a list under its place
 abbrev pub EachKnown : {A : Type 0} → (List Key → ℕ → A → Type 0) → List Key → List A → Type 0
 EachKnown {A} Knows table xs = (number : ℕ) (x : A) → slice_get xs number ≡ Some x → Knows table number x
+
+-- the tables have the BELs and the BEL pins of each site type, and the wires of each tile type
+pub record KnowsDevice (rec : DeviceRec) (bel_table pin_table wire_table : List Key) : Type 0 where
+  pub bels : EachKnown KnowsBels bel_table rec.site_type_list
+  pub pins : EachKnown KnowsPins pin_table rec.site_type_list
+  pub wires : EachKnown KnowsWires wire_table rec.tile_type_list

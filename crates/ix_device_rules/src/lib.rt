@@ -1,7 +1,7 @@
 //! The rules of a valid device.
 #![tactic(auto)]
 
-
+mod first_broken;
 mod kinds;
 mod lut_elements;
 mod lut_elements_stand;
@@ -18,4 +18,4 @@ mod tiles_are_few;
 mod walk;
 mod wires_stand;
 
-
+pub use first_broken::first_broken_rule;

@@ -1,0 +1,13 @@
+use Rattle.std.proofs.Common.{take, map, ◌++◌, Ok}
+use Rattle.std.specs.List.{flat_map}
+use Rattle.ix_keys.specs.Keys.{key, name_key}
+use Rattle.ix_device_rules.specs.Rules.{each_by_earlier, bel_pin_names, site_type_names, wire_names, tile_type_names, tile_names}
+use Rattle.ix_device_rules.specs.Named.{site_key, site_is_new}
+use Rattle.ix_device_rules.specs.Tables.{SameKeys}
+use Rattle.ix_device_rules.specs.Walks.{Walks}
+use Rattle.ix_device_rules.proofs.LoopFacts.{Asked}
+use Rattle.ix_device_rules.proofs.names_differ.bel_pins_differ.Given as goal
+
+abbrev pub invariant-loop-i : goal.invariant-loop-i
+invariant-loop-i l =
+    Asked (each_by_earlier (bel_pin_names l.site_type) (take l.i l.site_type.bel_pins)) l.fn.walk l.walk (map (λ p. key 0 p.bel p.name) (take l.i l.site_type.bel_pins)) l.pins

@@ -1,0 +1,18 @@
+use Rattle.std.proofs.Common.{◌≡◌, ◌<◌, ◌≤◌, ◌+◌, ℕ, take, map, length, ◌++◌, Ok, Some, None, slice_get, List}
+use Rattle.std.specs.List.{flat_map}
+use Rattle.ix_keys.specs.Keys.{key, name_key, has_key}
+use Rattle.ix_device_rules.specs.Rules
+use Rattle.ix_device_rules.specs.Named.{site_key, site_is_new}
+use Rattle.ix_device_rules.specs.Tables.{SameKeys, KnowsBels, KnowsPins, EachKnown}
+use Rattle.ix_device_rules.specs.Walks.{Walks}
+use Rattle.ix_device_rules.proofs.LoopFacts.{Asked}
+use Rattle.ix_device_rules.specs.Named.{tile_key}
+use Rattle.ix_device_rules.proofs.names_differ.tiles_differ.Given as goal
+
+abbrev pub invariant-loop-i : goal.invariant-loop-i
+invariant-loop-i l =
+    record {
+      walked : Walks {X = Unit {0}} (Rules.each_by_earlier Rules.tile_names (take l.i l.tiles)) l.fn.walk (Ok tt) l.walk;
+      names_are : l.names ≡ map tile_key (take l.i l.tiles);
+      sites_are : SameKeys l.site_names (map site_key (flat_map (λ t. t.sites) (take l.i l.tiles)));
+    }

@@ -120,6 +120,7 @@ tells rec entries site e are at = by (slice_get (sites_of rec) site) refl (site_
             → (s.1.name ≡ e.name) × (s.0 ≡ e.tile) × (option_map (λ u. u.primary_type) q ≡ Some e.ty)
         in_type None t = absurd (none-some (e.name, e.tile, e.ty) t)
         in_type (Some u) t = let same = same_Some (s.1.name, s.0, u.primary_type) (e.name, e.tile, e.ty) t in (ap (λ x. x.0) same, ap (λ x. x.1) same, ap (λ x. Some x.2) same)
+
     by : (o : Option (ℕ × Site)) → slice_get (sites_of rec) site ≡ o → option_and_then (told_of rec) o ≡ entry_told e → Tells rec site e
     by None h told = absurd (none-some (e.name, e.tile, e.ty) told)
     by (Some s) h told = let f = found s (type_of_tile rec s.0) refl told in record {

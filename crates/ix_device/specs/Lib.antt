@@ -14,3 +14,4 @@ pub mod TypeTables
 pub mod AllTables
 pub mod Valid
 pub mod PinsListed
+pub mod Faults

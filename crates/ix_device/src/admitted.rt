@@ -52,12 +52,7 @@ fn is_logic(category: Category) -> bool
 }
 
 // Whether a BEL has inputs enough in a usable LUT element, where the cell type is a LUT type.
-fn takes_lut(
-    lut_types: &FirstByKey<u32>,
-    inputs: &FirstById<u32>,
-    cell: NameId,
-    bel: BelId,
-) -> bool
+fn takes_lut(lut_types: &FirstByKey<u32>, inputs: &FirstById<u32>, cell: NameId, bel: BelId) -> bool
     requires { IsSome (value_of inputs.now bel) }
     ensures { result ≡ has_inputs (value_at lut_types.now (name_key cell)) (unwrap_or (value_of inputs.now bel) None) }
 {

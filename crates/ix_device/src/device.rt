@@ -53,7 +53,10 @@ impl Device {
         ensures tables { AreTypeTables self.now result.0.now result.1.now }
     {
         let place = t.get() as usize;
-        (self.rec.site_type_list.at(place), self.tables.types.at(place))
+        (
+            self.rec.site_type_list.at(place),
+            self.tables.types.at(place),
+        )
     }
 
     // What the table tells of a site.
@@ -100,7 +103,13 @@ impl Device {
     pub fn tile_wire(&self, tile: NameId, wire: NameId) -> Option<(TileId, u32)>
         ensures { result ≡ tile_wire_named self.now tile wire }
     {
-        tile_wire(&self.rec, &self.tables.tiles, &self.tables.wires, tile, wire)
+        tile_wire(
+            &self.rec,
+            &self.tables.tiles,
+            &self.tables.wires,
+            tile,
+            wire,
+        )
     }
 
     /// How many sites there are. Their numbers are those below it, by tile and by place in the tile.
@@ -159,9 +168,7 @@ impl Device {
     {
         let (ty, tables) = self.parts(t);
         match ty.bels.as_slice().get(bel.get() as usize) {
-            Some(bel) => tables
-                .bel_pins
-                .get(Key::new(0, bel.name.get(), name.get())),
+            Some(bel) => tables.bel_pins.get(Key::new(0, bel.name.get(), name.get())),
             None => None,
         }
     }

@@ -3,13 +3,14 @@
 
 mod admissions;
 mod admitted;
+mod check;
 mod constants;
-mod luts;
 mod counts;
 mod device;
 mod element_places;
 mod filling;
 mod lut_inputs;
+mod luts;
 mod names;
 mod pins;
 mod site_sources;
@@ -18,3 +19,7 @@ mod tables;
 mod tile_wires;
 mod types;
 mod usable;
+
+pub use check::DeviceFault;
+pub use device::Device;
+pub use pins::PinList;

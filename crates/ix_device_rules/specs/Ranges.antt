@@ -2,20 +2,11 @@
 use Rattle.std.specs.Prelude.{◌<◌, ℕ, List, length, slice_get, Option, Some, None}
 use Rattle.std.specs.List.{AllByRecursion}
 use Rattle.ix_rec.specs.declared.device.DeviceRec.{DeviceRec}
-use Rattle.ix_rec.specs.declared.device.SitePin.{SitePin}
-use Rattle.ix_rec.specs.declared.device.Bel.{Bel}
 use Rattle.ix_rec.specs.declared.device.Inversion.{Inversion}
 use Rattle.ix_rec.specs.declared.device.Inversion.TheVariants.{NonInverting, Inverting}
-use Rattle.ix_rec.specs.declared.device.SitePip.{SitePip}
-use Rattle.ix_rec.specs.declared.device.SiteWire.{SiteWire}
 use Rattle.ix_rec.specs.declared.device.SiteType.{SiteType}
-use Rattle.ix_rec.specs.declared.device.SiteTypeInTileType.{SiteTypeInTileType}
-use Rattle.ix_rec.specs.declared.device.Pip.{Pip}
-use Rattle.ix_rec.specs.declared.device.WireConstantSources.{WireConstantSources}
 use Rattle.ix_rec.specs.declared.device.TileType.{TileType}
 use Rattle.ix_rec.specs.declared.device.Site.{Site}
-use Rattle.ix_rec.specs.declared.device.Tile.{Tile}
-use Rattle.ix_rec.specs.declared.device.Node.{Node}
 
 abbrev pub InversionFits : ℕ → Inversion → Type 0
 InversionFits pins NonInverting = Unit {0}

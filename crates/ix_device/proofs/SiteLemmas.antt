@@ -10,7 +10,7 @@ use Rattle.std.proofs.lemmas.Option.{slice_get_within, none-some, same_Some, sli
 use Rattle.std.specs.List.{AllByRecursion, position}
 use Rattle.ix_rec.specs.declared.device.DeviceRec.{DeviceRec}
 use Rattle.ix_rec.specs.declared.device.Tile.{Tile}
-use Rattle.ix_device_rules.specs.Ranges.{SitesFit}
+use Rattle.ix_rec.specs.Ranges.{SitesFit}
 use Rattle.ix_device.specs.Lookups.{sites_from, sites_of, site_named, name_of_site, tile_of_site, type_of_site, type_of_tile}
 use Rattle.ix_device.proofs.FirstPlaces.{position-cons}
 use Rattle.ix_device.proofs.Walks.{map_take_next, take_next, length_take}

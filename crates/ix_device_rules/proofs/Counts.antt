@@ -1,16 +1,13 @@
 -- Counts of structs by kind are counts of the steps that begin them.
 use Prim.Native.String.{String}
-use Rattle.std.proofs.Common.{◌≡◌, ◌∙◌, ◌++◌, ◌∷◌, ◌+◌, ◌-◌, cond, sum_by, ◌&&◌, ◌||◌, ◌⊎◌, inl, inr, [], ℕ, Bool, true, false, true≢false, codes, List, map, replicate, slice_index, slice_set, get_or, set, Option, Some, None, Result, Ok, Err, ap, refl, sym, subst, arith, if◌then◌else◌, add-zero, add-one}
-use Rattle.std.specs.List.{list_any, list_all, count_by, flat_map}
+use Rattle.std.proofs.Common.{◌≡◌, ◌∙◌, ◌++◌, ◌∷◌, ◌+◌, cond, sum_by, ◌||◌, [], ℕ, Bool, true, false, true≢false, codes, List, map, slice_index, slice_set, ap, refl, sym, arith, if◌then◌else◌, add-zero, add-one}
+use Rattle.std.specs.List.{list_any, list_all, count_by}
 use Rattle.std.proofs.lemmas.List.Sums.{sum_by-append}
 use Rattle.ix_message.specs.Shape.{Text}
 use Rattle.ix_message.specs.Names.{same_text}
-use Rattle.ix_message.specs.Indexes.{Step, begun, asked, Item, begins, first_unfit}
+use Rattle.ix_message.specs.Indexes.{Step, begun, asked, begins}
 use Rattle.ix_message.proofs.NamesAgain.{same_text-true}
 use Rattle.ix_device_rules.specs.Kinds.{kinds, place_of}
-use Rattle.ix_device_rules.specs.Walks.{walked, one_more, field_at, Walks}
-use Rattle.ix_device_rules.specs.Rules.{by_earlier}
-use Rattle.ix_device_rules.proofs.TableLemmas.{either}
 
 -- whether the kind is one of these
 abbrev pub has_kind : List String → String → Bool
@@ -59,6 +56,7 @@ counts_more (k ∷ ks) differ kind before = by (same_text (codes kind) (codes k)
   where
     n : ℕ
     n = count_by (begins k) before
+
     by : (b : Bool) → same_text (codes kind) (codes k) ≡ b → slice_set (counts_in ks before) (place_of ks kind) (slice_index (counts_in ks before) (place_of ks kind) + 1) ≡ counts_in ks (before ++ begun kind ∷ [])
         → slice_set (counts_in (k ∷ ks) before) (if b then 0 else place_of ks kind + 1) (slice_index (counts_in (k ∷ ks) before) (if b then 0 else place_of ks kind + 1) + 1) ≡ counts_in (k ∷ ks) (before ++ begun kind ∷ [])
     by true e rest =

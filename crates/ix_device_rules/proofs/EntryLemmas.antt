@@ -1,5 +1,5 @@
 -- Entries of LUT elements, and the elements of their site types that came before.
-use Rattle.std.proofs.Common.{◌≡◌, ◌≢◌, ◌∙◌, ◌++◌, ◌∷◌, ◌+◌, ◌<◌, ◌≤◌, ◌&&◌, ◌||◌, ◌⊎◌, inl, inr, [], ℕ, zero, suc, Bool, true, false, true≢false, cond, not, nat_eq, nat_lt, nat_le, List, map, length, get_or, slice_get, Option, Some, None, position, is_some, option_map, ap, refl, sym, subst, arith, if◌then◌else◌}
+use Rattle.std.proofs.Common.{◌≡◌, ◌∙◌, ◌++◌, ◌∷◌, ◌<◌, ◌&&◌, ◌||◌, inl, inr, [], ℕ, zero, suc, Bool, true, false, true≢false, cond, not, nat_eq, nat_lt, nat_le, List, map, length, get_or, slice_get, Option, Some, None, position, is_some, option_map, ap, refl, sym, arith, if◌then◌else◌}
 use Rattle.std.specs.List.{list_any, flat_map, find}
 use Rattle.std.proofs.lemmas.Bool.Decides.{nat_tests}
 use Rattle.std.proofs.lemmas.Grind.{flat_map-append}
@@ -57,6 +57,7 @@ named_some types n p t is at =
   where
     found : (p < length (map site_type_key types)) × (key_eq (name_key n) (get_or (map site_type_key types) p (name_key n)) ≡ true) × ((k : ℕ) → k < p → key_eq (name_key n) (get_or (map site_type_key types) k (name_key n)) ≡ false)
     found = position-Some (key_eq (name_key n)) (map site_type_key types) p (name_key n) (sym is)
+
     key_at : (k : ℕ) (y : SiteType) → slice_get types k ≡ Some y → get_or (map site_type_key types) k (name_key n) ≡ site_type_key y
     key_at k y there = get_or_from_slice_get (map site_type_key types) k (site_type_key y) (name_key n) (slice_get-map site_type_key types k ∙ ap (option_map site_type_key) there)
 
@@ -66,6 +67,7 @@ named_at types n p is = by (slice_get types p) refl
   where
     there : slice_get (map site_type_key types) p ≡ Some (get_or (map site_type_key types) p (name_key n))
     there = slice_get-get_or (map site_type_key types) p (name_key n) (position-Some (key_eq (name_key n)) (map site_type_key types) p (name_key n) (sym is)).0
+
     by : (o : Option SiteType) → slice_get types p ≡ o → (t : SiteType) × (slice_get types p ≡ Some t)
     by None e = absurd (none-some (get_or (map site_type_key types) p (name_key n)) (sym (slice_get-map site_type_key types p ∙ ap (option_map site_type_key) e) ∙ there))
     by (Some t) e = (t, e)
@@ -100,9 +102,9 @@ its_keys s n same bel (b ∷ bs) =
 -- the keys of elements of a site type of one name, asked for a BEL of one of another
 elements_keys : (s n bel : ℕ) (es : List LutElement) → has_key (flat_map (element_keys s) es) (key n 0 bel) ≡ list_any (element_has bel) (if nat_eq s n then es else [])
 elements_keys s n bel es = elim (either (nat_eq s n)) [
-    | inl same ↦ has_key-flat (element_keys s) es (key n 0 bel) ∙ list_any-same (λ e. has_key (element_keys s e) (key n 0 bel)) (element_has bel) (λ e. its_keys s n same bel e.bels) es ∙ ap (λ b. list_any (element_has bel) (if b then es else [])) (sym same)
-    | inr apart ↦ has_key-flat (element_keys s) es (key n 0 bel) ∙ list_any-same (λ e. has_key (element_keys s e) (key n 0 bel)) (λ e. false) (λ e. no_keys s n apart bel e.bels) es ∙ nothing es ∙ ap (λ b. list_any (element_has bel) (if b then es else [])) (sym apart)
-  ]
+  | inl same ↦ has_key-flat (element_keys s) es (key n 0 bel) ∙ list_any-same (λ e. has_key (element_keys s e) (key n 0 bel)) (element_has bel) (λ e. its_keys s n same bel e.bels) es ∙ ap (λ b. list_any (element_has bel) (if b then es else [])) (sym same)
+  | inr apart ↦ has_key-flat (element_keys s) es (key n 0 bel) ∙ list_any-same (λ e. has_key (element_keys s e) (key n 0 bel)) (λ e. false) (λ e. no_keys s n apart bel e.bels) es ∙ nothing es ∙ ap (λ b. list_any (element_has bel) (if b then es else [])) (sym apart)
+]
   where
     nothing : (es : List LutElement) → list_any (λ e. false) es ≡ false
     nothing [] = refl
@@ -123,9 +125,9 @@ module _ (rec : DeviceRec) (names bels pins : List Key) (named : names ≡ map s
       → has_key (seen_by place e) (key n 0 bel) ≡ list_any (element_has bel) (if nat_eq e.site n then e.luts else [])
   keys_seen e (Some p) is n t there bel = elements_keys e.site n bel e.luts
   keys_seen e None is n t there bel = elim (either (nat_eq e.site n)) [
-      | inl same ↦ absurd (apart same)
-      | inr differs ↦ ap (λ b. list_any (element_has bel) (if b then e.luts else [])) (sym differs)
-    ]
+    | inl same ↦ absurd (apart same)
+    | inr differs ↦ ap (λ b. list_any (element_has bel) (if b then e.luts else [])) (sym differs)
+  ]
     where
       apart : nat_eq e.site n ≡ true → ⊥
       apart same =
@@ -134,13 +136,14 @@ module _ (rec : DeviceRec) (names bels pins : List Key) (named : names ≡ map s
           none-some t (sym missing ∙ ap (site_type_named rec) is_n ∙ there)
 
   pub seen_more : (before : List SiteTypeLutElements) (e : SiteTypeLutElements) (old new : List Key) → Seen rec old before → SameKeys new (old ++ seen_by (position (key_eq (name_key e.site)) names) e) → Seen rec new (before ++ e ∷ [])
-  seen_more before e old new h more = record { seen = λ n t there bel.
-      more.same (key n 0 bel)
-      ∙ list_any-append (key_eq (key n 0 bel)) old (seen_by (position (key_eq (name_key e.site)) names) e)
-      ∙ (λ i. h.seen n t there bel i || keys_seen e (position (key_eq (name_key e.site)) names) refl n t there bel i)
-      ∙ sym (list_any-append (element_has bel) (elements_for n before) (if nat_eq e.site n then e.luts else []))
-      ∙ ap (list_any (element_has bel)) (sym (flat_map-append (λ e. if nat_eq e.site n then e.luts else []) before (e ∷ []) ∙ ap (λ l. elements_for n before ++ l) (append-nil (if nat_eq e.site n then e.luts else []))))
-    }
+  seen_more before e old new h more = record {
+    seen = λ n t there bel.
+        more.same (key n 0 bel)
+        ∙ list_any-append (key_eq (key n 0 bel)) old (seen_by (position (key_eq (name_key e.site)) names) e)
+        ∙ (λ i. h.seen n t there bel i || keys_seen e (position (key_eq (name_key e.site)) names) refl n t there bel i)
+        ∙ sym (list_any-append (element_has bel) (elements_for n before) (if nat_eq e.site n then e.luts else []))
+        ∙ ap (list_any (element_has bel)) (sym (flat_map-append (λ e. if nat_eq e.site n then e.luts else []) before (e ∷ []) ∙ ap (λ l. elements_for n before ++ l) (append-nil (if nat_eq e.site n then e.luts else []))));
+  }
 
   pub entry_is : EachKnown KnowsBels bels rec.site_type_list → EachKnown KnowsPins pins rec.site_type_list → (before : List SiteTypeLutElements) (e : SiteTypeLutElements) (table : List Key) → Seen rec table before → (place : Option ℕ) → place ≡ position (key_eq (name_key e.site)) names → entry_by bels pins place table e ≡ elements_stand rec before e
   entry_is has_bels has_pins before e table h None is =
@@ -152,7 +155,7 @@ module _ (rec : DeviceRec) (names bels pins : List Key) (named : names ≡ map s
           let t = there.0 in
           let named_t : site_type_named rec e.site ≡ Some t = named_some rec.site_type_list e.site p t (at_place e.site (Some p) is) there.1 in
           by_earlier-same (element_after (record { number = p; site = e.site; bels = bels; pins = pins }) table) (λ b x. element_stands t (elements_for e.site before ++ b) x)
-            (λ b x. element_is (record { number = p; site = e.site; bels = bels; pins = pins }) t (has_bels p t there.1) (has_pins p t there.1) (table ++ flat_map (element_keys e.site) b) (elements_for e.site before ++ b) (λ bel. known t named_t b bel) x) [] e.luts
+          (λ b x. element_is (record { number = p; site = e.site; bels = bels; pins = pins }) t (has_bels p t there.1) (has_pins p t there.1) (table ++ flat_map (element_keys e.site) b) (elements_for e.site before ++ b) (λ bel. known t named_t b bel) x) [] e.luts
           ∙ ap (λ o. elements_of_type o (elements_for e.site before) e.luts) (sym named_t)
         where
           known : (t : SiteType) → site_type_named rec e.site ≡ Some t → (b : List LutElement) (bel : ℕ) → has_key (table ++ flat_map (element_keys e.site) b) (key e.site 0 bel) ≡ list_any (element_has bel) (elements_for e.site before ++ b)

@@ -1,12 +1,11 @@
 -- What the rules ask is of kinds that are counted.
 use Prim.Native.String.{String}
-use Rattle.std.proofs.Common.{◌≡◌, ◌∙◌, ◌++◌, ◌∷◌, ◌&&◌, [], ℕ, Bool, true, false, nat_eq, List, map, Option, Some, None, ap, refl, sym}
-use Rattle.std.specs.List.{list_all, list_any, flat_map}
+use Rattle.std.proofs.Common.{◌≡◌, ◌∙◌, ◌++◌, ◌∷◌, ◌&&◌, [], Bool, true, nat_eq, List, map, Option, Some, None, refl}
+use Rattle.std.specs.List.{list_any, flat_map}
 use Rattle.std.proofs.lemmas.List.Folds.{list_all-append}
 use Rattle.ix_message.specs.Indexes.{Step, begun, asked}
 use Rattle.ix_rec.specs.declared.device.DeviceRec.{DeviceRec}
 use Rattle.ix_rec.specs.declared.device.SiteType.{SiteType}
-use Rattle.ix_rec.specs.declared.device.SiteTypeLutElements.{SiteTypeLutElements}
 use Rattle.ix_rec.specs.declared.device.LutElement.{LutElement}
 use Rattle.ix_device_rules.specs.Rules
 use Rattle.ix_device_rules.proofs.Counts.{is_known, Known}
@@ -41,20 +40,20 @@ pub known_names : (rec : DeviceRec) → Known (Rules.names_differ rec)
 unfolding Rules.names_differ
 known_names rec =
     known_append (known_append (known_append
-      (known_each Rules.site_type_names (λ before t. entered "SiteType" "name" _ refl (known_append (known_append
-        (known_each (Rules.bel_pin_names t) (λ b p. entered "BELPin" "name" _ refl known_nil) [] t.bel_pins)
-        (known_each Rules.site_pin_names (λ b p. entered "SitePin" "name" _ refl known_nil) [] t.pins))
-        (known_each Rules.bel_names (λ b p. entered "BEL" "name" _ refl known_nil) [] t.bels))) [] rec.site_type_list)
-      (known_flat Rules.tile_type_names (λ t. known_cons (begun "TileType") refl (known_each Rules.wire_names (λ b w. known_cons (asked "TileType" "wires" _) refl known_nil) [] t.wires)) rec.tile_type_list))
-      (known_each Rules.tile_names (λ before t. entered "Tile" "name" _ refl (known_each (Rules.site_names before) (λ b s. entered "Site" "name" _ refl known_nil) [] t.sites)) [] rec.tile_list))
-      (known_each Rules.cell_names (λ b m. entered "CellBelMapping" "cell" _ refl known_nil) [] rec.cell_bel_map)
+    (known_each Rules.site_type_names (λ before t. entered "SiteType" "name" _ refl (known_append (known_append
+    (known_each (Rules.bel_pin_names t) (λ b p. entered "BELPin" "name" _ refl known_nil) [] t.bel_pins)
+    (known_each Rules.site_pin_names (λ b p. entered "SitePin" "name" _ refl known_nil) [] t.pins))
+    (known_each Rules.bel_names (λ b p. entered "BEL" "name" _ refl known_nil) [] t.bels))) [] rec.site_type_list)
+    (known_flat Rules.tile_type_names (λ t. known_cons (begun "TileType") refl (known_each Rules.wire_names (λ b w. known_cons (asked "TileType" "wires" _) refl known_nil) [] t.wires)) rec.tile_type_list))
+    (known_each Rules.tile_names (λ before t. entered "Tile" "name" _ refl (known_each (Rules.site_names before) (λ b s. entered "Site" "name" _ refl known_nil) [] t.sites)) [] rec.tile_list))
+    (known_each Rules.cell_names (λ b m. entered "CellBelMapping" "cell" _ refl known_nil) [] rec.cell_bel_map)
 
 pub known_wires : (rec : DeviceRec) → Known (Rules.wires_stand rec)
 unfolding Rules.wires_stand
 known_wires rec =
     known_append
-      (known_flat (Rules.wire_stands rec) (λ w. entered "Wire" "tile" _ refl (known_cons (asked "Wire" "wire" _) refl known_nil)) rec.wires)
-      (known_each (Rules.node_wires rec) (λ before n. known_cons (begun "Node") refl (known_map (λ i. asked "Node" "wires" (Rules.is_free rec before i)) (λ i. refl) n.wires)) [] rec.nodes)
+    (known_flat (Rules.wire_stands rec) (λ w. entered "Wire" "tile" _ refl (known_cons (asked "Wire" "wire" _) refl known_nil)) rec.wires)
+    (known_each (Rules.node_wires rec) (λ before n. known_cons (begun "Node") refl (known_map (λ i. asked "Node" "wires" (Rules.is_free rec before i)) (λ i. refl) n.wires)) [] rec.nodes)
 
 pub known_pins : (rec : DeviceRec) → Known (Rules.pins_are_on_one_wire rec)
 unfolding Rules.pins_are_on_one_wire
@@ -65,8 +64,8 @@ pub known_bels : (rec : DeviceRec) → Known (Rules.pins_have_bels rec)
 unfolding Rules.pins_have_bels
 known_bels rec =
     known_flat Rules.bels_of_pins (λ t. known_append
-      (known_flat (Rules.pin_has_bel t) (λ p. entered "BELPin" "bel" _ refl known_nil) t.bel_pins)
-      (known_flat (Rules.pip_is_of_one_bel t) (λ p. entered "SitePIP" "outpin" _ refl known_nil) t.site_pips)) rec.site_type_list
+    (known_flat (Rules.pin_has_bel t) (λ p. entered "BELPin" "bel" _ refl known_nil) t.bel_pins)
+    (known_flat (Rules.pip_is_of_one_bel t) (λ p. entered "SitePIP" "outpin" _ refl known_nil) t.site_pips)) rec.site_type_list
 
 known_passed : (luts : List LutElement) → Known (flat_map Rules.element_passed luts)
 known_passed luts = known_flat Rules.element_passed (λ e. known_cons (begun "LutElement") refl (known_map (λ b. begun "LutBel") (λ b. refl) e.bels)) luts
@@ -74,9 +73,9 @@ known_passed luts = known_flat Rules.element_passed (λ e. known_cons (begun "Lu
 known_element : (t : SiteType) (before : List LutElement) (e : LutElement) → Known (Rules.element_stands t before e)
 known_element t before e =
     entered "LutElement" "width" _ refl (known_flat (Rules.lut_bel_stands t before e.width) (λ b.
-      entered "LutBel" "highBit" _ refl (known_cons (asked "LutBel" "name" _) refl (known_append
-        (known_map (λ pin. asked "LutBel" "inputPins" (Rules.has_pin t b.name pin)) (λ pin. refl) b.input_pins)
-        (known_cons (asked "LutBel" "outputPin" _) refl known_nil)))) e.bels)
+    entered "LutBel" "highBit" _ refl (known_cons (asked "LutBel" "name" _) refl (known_append
+    (known_map (λ pin. asked "LutBel" "inputPins" (Rules.has_pin t b.name pin)) (λ pin. refl) b.input_pins)
+    (known_cons (asked "LutBel" "outputPin" _) refl known_nil)))) e.bels)
 
 known_of_type : (o : Option SiteType) (earlier luts : List LutElement) → Known (Rules.elements_of_type o earlier luts)
 known_of_type None earlier luts = known_passed luts
@@ -90,7 +89,7 @@ pub known_sites : (rec : DeviceRec) → Known (Rules.site_pins_have_wires rec)
 unfolding Rules.site_pins_have_wires
 known_sites rec =
     known_flat (Rules.sites_of_tile_type rec) (λ t. known_flat (Rules.site_pins_stand rec t) (λ s. entered "SiteTypeInTileType" "primaryPinsToTileWires" _ refl
-      (known_map (λ w. asked "SiteTypeInTileType" "primaryPinsToTileWires" (list_any (nat_eq w) t.wires)) (λ w. refl) s.primary_pins_to_tile_wires)) t.site_types) rec.tile_type_list
+    (known_map (λ w. asked "SiteTypeInTileType" "primaryPinsToTileWires" (list_any (nat_eq w) t.wires)) (λ w. refl) s.primary_pins_to_tile_wires)) t.site_types) rec.tile_type_list
 
 pub known_tiles : (rec : DeviceRec) → Known (Rules.tiles_are_few rec)
 unfolding Rules.tiles_are_few

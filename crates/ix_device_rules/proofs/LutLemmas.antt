@@ -1,14 +1,13 @@
 -- LUT elements, asked by tables.
-use Rattle.std.proofs.Common.{◌≡◌, ◌∙◌, ◌++◌, ◌∷◌, ◌+◌, ◌^◌, ◌<◌, ◌≤◌, ◌&&◌, ◌||◌, [], ℕ, Bool, true, false, not, nat_eq, nat_lt, nat_le, List, map, length, slice_get, Option, Some, None, ap, refl, sym, subst, arith}
-use Rattle.std.specs.List.{list_any, flat_map}
+use Rattle.std.proofs.Common.{◌≡◌, ◌++◌, ◌∷◌, ◌+◌, ◌^◌, ◌<◌, ◌≤◌, ◌&&◌, [], ℕ, false, not, nat_eq, nat_lt, nat_le, List, ap, refl, arith}
+use Rattle.std.specs.List.{flat_map}
 use Rattle.std.proofs.Math.Nat.{pow-le-pow_right}
 use Rattle.std.proofs.lemmas.Bool.Decides.{nat_tests}
-use Rattle.std.proofs.lemmas.List.Folds.{list_any-append}
 use Rattle.ix_message.specs.Indexes.{Step, begun, asked}
 use Rattle.ix_rec.specs.declared.device.LutBel.{LutBel}
 use Rattle.ix_rec.specs.declared.device.LutElement.{LutElement}
 use Rattle.ix_keys.specs.declared.key.Key.{Key}
-use Rattle.ix_keys.specs.Keys.{key, key_eq, has_key}
+use Rattle.ix_keys.specs.Keys.{key}
 use Rattle.ix_device_rules.specs.Tables.{SameKeys}
 use Rattle.ix_device_rules.specs.Luts.{Parts, has_bel_by, has_pin_by, input_by, lut_bel_by, element_by}
 use Rattle.ix_device_rules.specs.Rules.{bits_fit}

@@ -1,5 +1,5 @@
 -- Names that are new, told by tables.
-use Rattle.std.proofs.Common.{◌≡◌, ℕ, Bool, not, ◌&&◌, ◌||◌, nat_eq, List, [], ◌∷◌, ◌++◌, map, refl, sym, ap, ◌∙◌}
+use Rattle.std.proofs.Common.{◌≡◌, ℕ, not, ◌&&◌, ◌||◌, List, [], ◌∷◌, ◌++◌, map, refl, sym, ap, ◌∙◌}
 use Rattle.std.specs.List.{list_any, flat_map}
 use Rattle.std.proofs.lemmas.List.{map-append, map-id}
 use Rattle.std.proofs.lemmas.List.Folds.{list_any-append}
@@ -7,7 +7,7 @@ use Rattle.ix_rec.specs.declared.device.BelPin.{BelPin}
 use Rattle.ix_rec.specs.declared.device.Site.{Site}
 use Rattle.ix_rec.specs.declared.device.Tile.{Tile}
 use Rattle.ix_rec.specs.declared.device.SiteWire.{SiteWire}
-use Rattle.ix_message.specs.Indexes.{Step, begun, asked}
+use Rattle.ix_message.specs.Indexes.{begun, asked}
 use Rattle.ix_keys.specs.declared.key.Key.{Key}
 use Rattle.ix_keys.specs.Keys.{key, key_eq, name_key, has_key}
 use Rattle.ix_device_rules.specs.Named.{site_key, site_is_new, pin_is_new}

@@ -1,5 +1,5 @@
 -- Tables of the parts of numbered things.
-use Rattle.std.proofs.Common.{◌≡◌, ◌≢◌, ◌∙◌, ◌++◌, ◌∷◌, ◌+◌, ◌≤◌, ◌<◌, ◌⊎◌, inl, inr, ◌||◌, ◌&&◌, [], ℕ, Bool, true, false, nat_eq, List, map, length, take, slice_get, Option, Some, None, ap, refl, sym, subst, arith}
+use Rattle.std.proofs.Common.{◌≡◌, ◌≢◌, ◌∙◌, ◌++◌, ◌∷◌, ◌+◌, ◌≤◌, ◌<◌, ◌⊎◌, inl, inr, ◌||◌, ◌&&◌, [], ℕ, Bool, true, false, nat_eq, List, map, length, take, slice_get, Some, ap, refl, sym, subst, arith}
 use Rattle.std.specs.List.{list_any}
 use Rattle.std.proofs.lemmas.Bool.Decides.{nat_tests}
 use Rattle.std.proofs.lemmas.List.{length-take, take_all}
@@ -13,7 +13,7 @@ use Rattle.ix_keys.specs.declared.key.Key.{Key}
 use Rattle.ix_keys.specs.Keys.{key, key_eq, has_key}
 use Rattle.ix_keys.proofs.KeyLemmas.{slice_get-push}
 use Rattle.ix_device_rules.specs.Tables.{SameKeys, KnowsBels, KnowsPins, KnowsWires, EachKnown}
-use Rattle.ix_device_rules.specs.Rules.{has_bel, has_pin, is_pin_of}
+use Rattle.ix_device_rules.specs.Rules.{is_pin_of}
 use Rattle.ix_device_rules.proofs.Steps.{up_to}
 use Rattle.ix_device_rules.proofs.TableLemmas.{list_any-map, list_any-same}
 
@@ -50,11 +50,14 @@ module _ {A B : Type 0} (items : A → List B) (part name : B → ℕ) where
     where
       split : (number p n : ℕ) → has_key new (key number p n) ≡ (has_key old (key number p n) || has_key (parts i x) (key number p n))
       split number p n = more.same (key number p n) ∙ list_any-append (key_eq (key number p n)) old (parts i x)
+
       long : length (take i xs) ≡ i
       long = let lt = slice_get_within xs i x at in length-take i xs ∙ omega arith
+
       or_false : (b : Bool) → (b || false) ≡ b
       or_false true = refl
       or_false false = refl
+
       by : (number : ℕ) (y : A) (p n : ℕ) → (slice_get (take i xs) number ≡ Some y) ⊎ ((number ≡ length (take i xs)) × (x ≡ y)) → (has_key old (key number p n) || has_key (parts i x) (key number p n)) ≡ has_key (parts number y) (key number p n)
       by number y p n (inl earlier) =
           let lt : number < length (take i xs) = slice_get_within (take i xs) number y earlier in

@@ -1,5 +1,5 @@
 -- How much tiles hold.
-use Rattle.std.proofs.Common.{◌≡◌, ◌∙◌, ◌++◌, ◌∷◌, ◌+◌, ◌-◌, ◌^◌, ◌≤◌, ◌&&◌, [], ℕ, Bool, true, false, List, map, min, length, nat_le, slice_get, Option, Some, None, option_map, unwrap_or, take, ap, refl, sym, subst, arith, add-zero}
+use Rattle.std.proofs.Common.{◌≡◌, ◌∙◌, ◌++◌, ◌∷◌, ◌+◌, ◌-◌, ◌^◌, ◌≤◌, ◌&&◌, [], ℕ, true, List, map, min, length, nat_le, slice_get, Option, Some, None, option_map, unwrap_or, ap, refl, sym, arith}
 use Rattle.std.specs.List.{sum_by}
 use Rattle.std.proofs.lemmas.Bool.Decides.{nat_tests}
 use Rattle.std.proofs.lemmas.List.Sums.{sum_by-append}
@@ -10,7 +10,6 @@ use Rattle.ix_rec.specs.declared.device.Tile.{Tile}
 use Rattle.ix_device_rules.specs.declared.size.Size.{Size}
 use Rattle.ix_device_rules.specs.Sizes.{size_of, no_size}
 use Rattle.ix_device_rules.specs.Rules.{directed_pips, count_in_tile, at_most, most_tile_wires, most_directed_pips}
-use Rattle.ix_device_rules.proofs.Steps.{up_to}
 
 wires_at : (o : Option TileType) → (unwrap_or (option_map size_of o) no_size).wires ≡ unwrap_or (option_map (λ ty. length ty.wires) o) 0
 wires_at (Some t) = refl

@@ -1,5 +1,5 @@
 -- Walks over lists of steps, one after the other.
-use Rattle.std.proofs.Common.{◌≡◌, ℕ, ◌+◌, ◌<◌, ◌≤◌, suc, zero, Bool, true, false, not, List, [], ◌∷◌, ◌++◌, length, take, drop, map, slice_get, Some, None, Option, Result, Ok, Err, refl, sym, ap, subst, ◌∙◌, append_assoc, arith}
+use Rattle.std.proofs.Common.{◌≡◌, ℕ, ◌+◌, ◌≤◌, Bool, true, false, List, [], ◌∷◌, ◌++◌, length, take, drop, slice_get, Some, Result, Ok, Err, refl, sym, ap, subst, ◌∙◌, append_assoc}
 use Prim.Native.String.{String}
 use Rattle.std.proofs.lemmas.List.{append-nil, take-append-drop, take_more, take_all}
 use Rattle.std.proofs.lemmas.Grind.{flat_map-append}
@@ -10,7 +10,7 @@ use Rattle.ix_rec.specs.declared.place.Place.{Place}
 use Rattle.ix_rec.specs.declared.place.Place.TheVariants as P
 use Rattle.ix_device_rules.specs.declared.stop.Stop.{Stop}
 use Rattle.ix_device_rules.specs.declared.stop.Stop.TheVariants.{Broken, Memory}
-use Rattle.ix_device_rules.specs.Walks.{walked, Walks, Tells, IsFound, one_more, field_at}
+use Rattle.ix_device_rules.specs.Walks.{walked, Walks, Tells, IsFound, one_more}
 use Rattle.ix_device_rules.specs.Rules.{by_earlier, each_by_earlier}
 
 infixl 10 ◌>>=◌

@@ -1,10 +1,10 @@
 -- Keys of tables, and the names that they stand for.
-use Rattle.std.proofs.Common.{◌≡◌, ℕ, ◌+◌, ◌<◌, Bool, true, false, not, ◌&&◌, ◌||◌, nat_eq, List, [], ◌∷◌, ◌++◌, length, take, map, slice_get, Some, refl, sym, ap, subst, ◌∙◌, arith, append_assoc, if◌then◌else◌, ◌⊎◌, inl, inr}
+use Rattle.std.proofs.Common.{◌≡◌, ℕ, ◌+◌, Bool, true, false, not, ◌&&◌, ◌||◌, nat_eq, List, [], ◌∷◌, ◌++◌, take, map, slice_get, Some, refl, sym, ap, subst, ◌∙◌, arith, append_assoc, if◌then◌else◌, ◌⊎◌, inl, inr}
 use Rattle.std.specs.List.{list_any, flat_map}
 use Rattle.std.proofs.lemmas.Bool.Decides.{nat_tests}
 use Rattle.ix_keys.specs.declared.key.Key.{Key}
 use Rattle.ix_keys.proofs.KeyLemmas.{alike}
-use Rattle.ix_keys.specs.Keys.{key, name_key, key_eq, has_key, with_key}
+use Rattle.ix_keys.specs.Keys.{name_key, key_eq, has_key, with_key}
 use Rattle.ix_device_rules.specs.Tables.{SameKeys}
 use Rattle.ix_device_rules.proofs.Steps.{up_to, flat_up_to}
 use Rattle.std.proofs.lemmas.List.{append-nil, map-append}
@@ -25,9 +25,9 @@ or_assoc false b c = refl
 -- a key that is already there adds none
 known_adds_none : (keys : List Key) (k j : Key) → has_key keys k ≡ true → has_key keys j ≡ (has_key keys j || key_eq j k)
 known_adds_none keys k j known = elim (either (key_eq j k)) [
-    | inl same ↦ (let at : has_key keys j ≡ true = ap (has_key keys) (alike j k same) ∙ known in at ∙ sym (ap (λ b. b || key_eq j k) at))
-    | inr other ↦ or_false (has_key keys j) ∙ sym (ap (λ b. has_key keys j || b) other)
-  ]
+  | inl same ↦ (let at : has_key keys j ≡ true = ap (has_key keys) (alike j k same) ∙ known in at ∙ sym (ap (λ b. b || key_eq j k) at))
+  | inr other ↦ or_false (has_key keys j) ∙ sym (ap (λ b. has_key keys j || b) other)
+]
 
 has_key-push : (keys : List Key) (k j : Key) → has_key (keys ++ k ∷ []) j ≡ (has_key keys j || key_eq j k)
 has_key-push [] k j = sym (or_false (key_eq j k))
@@ -35,14 +35,16 @@ has_key-push (x ∷ xs) k j = ap (λ b. key_eq j x || b) (has_key-push xs k j) �
 
 pub has_key-with_key : (keys : List Key) (k j : Key) → has_key (with_key keys k) j ≡ (has_key keys j || key_eq j k)
 has_key-with_key keys k j = elim (either (has_key keys k)) [
-    | inl known ↦ ap (λ (b : Bool). has_key (if b then keys else keys ++ k ∷ []) j) known ∙ known_adds_none keys k j known
-    | inr unknown ↦ ap (λ (b : Bool). has_key (if b then keys else keys ++ k ∷ []) j) unknown ∙ has_key-push keys k j
-  ]
+  | inl known ↦ ap (λ (b : Bool). has_key (if b then keys else keys ++ k ∷ []) j) known ∙ known_adds_none keys k j known
+  | inr unknown ↦ ap (λ (b : Bool). has_key (if b then keys else keys ++ k ∷ []) j) unknown ∙ has_key-push keys k j
+]
 
 pub same_more : {A : Type 0} (f : A → Key) (xs : List A) (i : ℕ) (x : A) (old new : List Key) → slice_get xs i ≡ Some x → SameKeys old (map f (take i xs)) → new ≡ with_key old (f x) → SameKeys new (map f (take (i + 1) xs))
-same_more f xs i x old new at h is = record { same = λ k.
-    ap (λ t. has_key t k) is ∙ has_key-with_key old (f x) k ∙ ap (λ b. b || key_eq k (f x)) (h.same k)
-    ∙ sym (has_key-push (map f (take i xs)) (f x) k) ∙ ap (λ t. has_key t k) (sym (map-push f (take i xs) x) ∙ ap (map f) (sym (up_to xs i x at))) }
+same_more f xs i x old new at h is = record {
+  same = λ k.
+      ap (λ t. has_key t k) is ∙ has_key-with_key old (f x) k ∙ ap (λ b. b || key_eq k (f x)) (h.same k)
+      ∙ sym (has_key-push (map f (take i xs)) (f x) k) ∙ ap (λ t. has_key t k) (sym (map-push f (take i xs) x) ∙ ap (map f) (sym (up_to xs i x at)));
+}
   where
     map-push : {A B : Type 0} (g : A → B) (ys : List A) (y : A) → map g (ys ++ y ∷ []) ≡ map g ys ++ g y ∷ []
     map-push g [] y = refl

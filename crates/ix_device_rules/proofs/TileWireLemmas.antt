@@ -1,5 +1,5 @@
 -- Tile wires, told by tables.
-use Rattle.std.proofs.Common.{◌≡◌, ◌≢◌, ◌<◌, cond, nat_lt, ◌∙◌, ◌++◌, ◌∷◌, ◌+◌, ◌≤◌, ◌||◌, ◌&&◌, length, ◌⊎◌, inl, inr, [], ℕ, zero, suc, Bool, true, false, true≢false, not, nat_eq, List, map, slice_get, Option, Some, None, option_map, unwrap_or, is_some, position, ap, refl, sym, subst, arith}
+use Rattle.std.proofs.Common.{◌≡◌, ◌<◌, cond, nat_lt, ◌∙◌, ◌∷◌, ◌≤◌, ◌||◌, ◌&&◌, length, inl, inr, [], ℕ, zero, suc, Bool, true, false, true≢false, not, nat_eq, List, map, slice_get, Option, Some, None, option_map, unwrap_or, is_some, position, ap, refl, sym, subst, arith}
 use Rattle.std.specs.List.{list_any, flat_map, position_or_len}
 use Rattle.std.proofs.lemmas.Bool.Decides.{nat_tests}
 use Rattle.std.proofs.lemmas.List.Folds.{list_any-append}
@@ -60,9 +60,9 @@ no_wire_keys wires i past = ap (λ o. unwrap_or (option_map (λ w. wire_key w �
 
 pub some_place : {A : Type 0} (p : A → Bool) (xs : List A) → is_some (position p xs) ≡ list_any p xs
 some_place p xs = elim (either (list_any p xs)) [
-    | inl any ↦ (let within : position_or_len p xs < length xs = position_or_len-within p xs any in ap (λ b. is_some (cond b (Some (position_or_len p xs)) None)) (lt-ltb _ _ within) ∙ sym any)
-    | inr none ↦ (let past : nat_lt (position_or_len p xs) (length xs) ≡ false = rw (position_or_len-none p xs none) (grind (arith, nat_tests)) in ap (λ b. is_some (cond b (Some (position_or_len p xs)) None)) past ∙ sym none)
-  ]
+  | inl any ↦ (let within : position_or_len p xs < length xs = position_or_len-within p xs any in ap (λ b. is_some (cond b (Some (position_or_len p xs)) None)) (lt-ltb _ _ within) ∙ sym any)
+  | inr none ↦ (let past : nat_lt (position_or_len p xs) (length xs) ≡ false = rw (position_or_len-none p xs none) (grind (arith, nat_tests)) in ap (λ b. is_some (cond b (Some (position_or_len p xs)) None)) past ∙ sym none)
+]
 
 stands_at : (ks : List Key) (k : Key) → has_key ks k ≡ true → (i : ℕ) × (slice_get ks i ≡ Some k)
 stands_at [] k h = absurd (true≢false (sym h))
@@ -96,7 +96,7 @@ differ_behind k ks differ i j t at_i at_j = let e : suc i ≡ suc j = differ (su
 
 -- the first of keys that differ stands nowhere later
 not_behind : (k : Key) (ks : List Key) → AllDiffer (k ∷ ks) → has_key ks k ≡ false
-not_behind k ks differ = elim (either (has_key ks k)) [ | inl there ↦ absurd (again (stands_at ks k there)) | inr not_there ↦ not_there ]
+not_behind k ks differ = elim (either (has_key ks k)) [ inl there ↦ absurd (again (stands_at ks k there)) | inr not_there ↦ not_there ]
   where
     again : (i : ℕ) × (slice_get ks i ≡ Some k) → ⊥
     again found = let e : 0 ≡ suc found.0 = differ 0 (suc found.0) k refl found.1 in absurd (omega arith)
@@ -111,7 +111,7 @@ only_one has (u ∷ us) zero t differ at =
     let here : list_any (λ v. nat_eq v.name u.name && has v) (u ∷ us) ≡ has u = (λ i. (like i && has u) || none_named u.name has us none i) ∙ or_false (has u) in
     subst (λ v. list_any (λ w. nat_eq w.name v.name && has w) (u ∷ us) ≡ has v) is here
 only_one has (u ∷ us) (suc p) t differ at =
-    let other : nat_eq u.name t.name ≡ false = elim (either (nat_eq u.name t.name)) [ | inl same ↦ absurd (apart same) | inr differs ↦ differs ] in
+    let other : nat_eq u.name t.name ≡ false = elim (either (nat_eq u.name t.name)) [ inl same ↦ absurd (apart same) | inr differs ↦ differs ] in
     ap (λ b. (b && has u) || list_any (λ v. nat_eq v.name t.name && has v) us) other ∙ only_one has us p t (differ_behind (tile_key u) (map tile_key us) differ) at
   where
     apart : nat_eq u.name t.name ≡ true → ⊥
@@ -132,8 +132,10 @@ named_wire rec table names knows are differ n wire (Some p) is = by (slice_get r
   where
     there : slice_get (map tile_key rec.tile_list) p ≡ Some (name_key n)
     there = ap (λ ks. slice_get ks p) (sym are) ∙ stands names (name_key n) p is
+
     found : (o : Option Tile) → slice_get rec.tile_list p ≡ o → option_map tile_key o ≡ Some (name_key n)
     found o e = sym (slice_get-map tile_key rec.tile_list p ∙ ap (option_map tile_key) e) ∙ there
+
     by : (o : Option Tile) → slice_get rec.tile_list p ≡ o → unwrap_or (option_map (λ t. type_has_wire rec table t.ty wire) o) false ≡ has_tile_wire rec n wire
     by None e = absurd (none-some (name_key n) (found None e))
     by (Some t) e =

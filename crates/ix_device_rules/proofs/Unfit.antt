@@ -1,10 +1,8 @@
 -- The walk over steps finds the first field that doesn't fit.
-use Prim.Native.String.{String}
-use Rattle.std.proofs.Common.{◌≡◌, ◌∙◌, ◌++◌, ◌∷◌, ◌+◌, ◌-◌, ◌&&◌, ◌||◌, [], ℕ, Bool, true, false, true≢false, codes, List, map, replicate, Option, Some, None, Result, Ok, Err, IfOk, ap, refl, sym, subst}
-use Rattle.std.specs.List.{list_any, list_all, flat_map}
-use Rattle.ix_message.specs.Shape.{Text}
+use Rattle.std.proofs.Common.{◌≡◌, ◌∙◌, ◌++◌, ◌∷◌, ◌-◌, ◌&&◌, [], ℕ, Bool, true, false, true≢false, codes, List, replicate, Option, Some, None, Result, Ok, Err, IfOk, ap, refl, sym, subst}
+use Rattle.std.specs.List.{list_all}
 use Rattle.ix_message.specs.Indexes.{Step, begun, asked, Item, first_unfit}
-use Rattle.ix_device_rules.specs.Kinds.{kinds, place_of}
+use Rattle.ix_device_rules.specs.Kinds.{kinds}
 use Rattle.ix_num.specs.declared.fault.Memory.{Memory as WantOfMemory}
 use Rattle.ix_rec.specs.declared.place.Place.{Place}
 use Rattle.ix_rec.specs.declared.place.Place.TheVariants as P
@@ -13,7 +11,7 @@ use Rattle.ix_device_rules.specs.declared.stop.Stop.{Stop}
 use Rattle.ix_device_rules.specs.declared.stop.Stop.TheVariants.{Broken, Memory}
 use Rattle.ix_device_rules.specs.Rules.{or_later}
 use Rattle.ix_device_rules.specs.Broken.{IsBreach, Shows, IsBrokenBy}
-use Rattle.ix_device_rules.specs.Walks.{Walks, walked, one_more, field_at}
+use Rattle.ix_device_rules.specs.Walks.{Walks, walked}
 use Rattle.ix_device_rules.proofs.Counts.{has_kind, is_known, Known, Differ, counts_in, counts_more, index_at}
 
 pub kinds_differ : Differ kinds

@@ -17,7 +17,7 @@ map-same f g same (x ∷ xs) = (λ i. same x i ∷ map-same f g same xs i)
 
 pub wires_there : (rec : DeviceRec) (t : TileType) (table : List Key) (number : ℕ) → KnowsWires table number t → (s : SiteTypeInTileType)
     → (begun "SiteTypeInTileType" ∷ asked "SiteTypeInTileType" "primaryPinsToTileWires" (nat_eq (length s.primary_pins_to_tile_wires) (pin_count rec s.primary_type)) ∷ []) ++ flat_map (wire_is_there table number) s.primary_pins_to_tile_wires
-      ≡ site_pins_stand rec t s
+    ≡ site_pins_stand rec t s
 wires_there rec t table number knows s =
     ap (λ (l : List Step). begun "SiteTypeInTileType" ∷ asked "SiteTypeInTileType" "primaryPinsToTileWires" (nat_eq (length s.primary_pins_to_tile_wires) (pin_count rec s.primary_type)) ∷ l)
     (flat_map_single (λ w. asked "SiteTypeInTileType" "primaryPinsToTileWires" (has_key table (key number 0 w))) s.primary_pins_to_tile_wires

@@ -1,5 +1,4 @@
 pub mod Rules
-pub mod Ranges
 pub mod Kinds
 pub mod Walks
 pub mod Tables

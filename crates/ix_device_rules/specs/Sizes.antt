@@ -1,5 +1,5 @@
 -- How much a tile holds.
-use Rattle.std.specs.Prelude.{ℕ, ◌-◌, ◌^◌, min, length}
+use Rattle.std.specs.Prelude.{◌-◌, ◌^◌, min, length}
 use Rattle.ix_rec.specs.declared.device.TileType.{TileType}
 use Rattle.ix_device_rules.specs.declared.size.Size.{Size}
 use Rattle.ix_device_rules.specs.Rules.{directed_pips}

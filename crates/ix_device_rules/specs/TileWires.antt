@@ -1,9 +1,8 @@
 -- Tile wires, told by tables.
-use Rattle.std.specs.Prelude.{ℕ, List, [], ◌∷◌, Bool, true, false, not, slice_get, Option, Some, None, option_map, unwrap_or, is_some, ◌&&◌}
+use Rattle.std.specs.Prelude.{ℕ, List, [], ◌∷◌, Bool, true, false, not, slice_get, Option, Some, None, option_map, unwrap_or}
 use Rattle.std.specs.List.{flat_map}
 use Rattle.ix_message.specs.Indexes.{Step, asked}
 use Rattle.ix_rec.specs.declared.device.DeviceRec.{DeviceRec}
-use Rattle.ix_rec.specs.declared.device.Tile.{Tile}
 use Rattle.ix_rec.specs.declared.device.Wire.{Wire}
 use Rattle.ix_rec.specs.declared.device.Node.{Node}
 use Rattle.ix_keys.specs.declared.key.Key.{Key}

@@ -66,7 +66,12 @@ fn from_site_pins(alloc: Global, rec: &DeviceRec, tables: &Tables<'_>) -> Result
 }
 
 /// LUT elements, and on.
-fn from_lut_elements(alloc: Global, rec: &DeviceRec, tables: &Tables<'_>, site_types: &Keys) -> Result<Breach, Memory>
+fn from_lut_elements(
+    alloc: Global,
+    rec: &DeviceRec,
+    tables: &Tables<'_>,
+    site_types: &Keys,
+) -> Result<Breach, Memory>
     requires tables { KnowsDevice rec.now tables.now.bels.now tables.now.pins.now tables.now.wires.now }
     requires site_types { site_types.now ≡ map site_type_key rec.now.site_type_list }
     ensures { IfOk result (Shows (first_of_rules (drop 4 (rules rec.now)))) }
@@ -79,7 +84,12 @@ fn from_lut_elements(alloc: Global, rec: &DeviceRec, tables: &Tables<'_>, site_t
 }
 
 /// The BELs of pins, and on.
-fn from_bels(alloc: Global, rec: &DeviceRec, tables: &Tables<'_>, site_types: &Keys) -> Result<Breach, Memory>
+fn from_bels(
+    alloc: Global,
+    rec: &DeviceRec,
+    tables: &Tables<'_>,
+    site_types: &Keys,
+) -> Result<Breach, Memory>
     requires tables { KnowsDevice rec.now tables.now.bels.now tables.now.pins.now tables.now.wires.now }
     requires site_types { site_types.now ≡ map site_type_key rec.now.site_type_list }
     ensures { IfOk result (Shows (first_of_rules (drop 3 (rules rec.now)))) }
@@ -92,7 +102,12 @@ fn from_bels(alloc: Global, rec: &DeviceRec, tables: &Tables<'_>, site_types: &K
 }
 
 /// The pins of site wires, and on.
-fn from_site_wires(alloc: Global, rec: &DeviceRec, tables: &Tables<'_>, site_types: &Keys) -> Result<Breach, Memory>
+fn from_site_wires(
+    alloc: Global,
+    rec: &DeviceRec,
+    tables: &Tables<'_>,
+    site_types: &Keys,
+) -> Result<Breach, Memory>
     requires tables { KnowsDevice rec.now tables.now.bels.now tables.now.pins.now tables.now.wires.now }
     requires site_types { site_types.now ≡ map site_type_key rec.now.site_type_list }
     ensures { IfOk result (Shows (first_of_rules (drop 2 (rules rec.now)))) }
@@ -105,7 +120,13 @@ fn from_site_wires(alloc: Global, rec: &DeviceRec, tables: &Tables<'_>, site_typ
 }
 
 /// Wires and nodes, and on.
-fn from_wires(alloc: Global, rec: &DeviceRec, tables: &Tables<'_>, site_types: &Keys, tiles: &Keys) -> Result<Breach, Memory>
+fn from_wires(
+    alloc: Global,
+    rec: &DeviceRec,
+    tables: &Tables<'_>,
+    site_types: &Keys,
+    tiles: &Keys,
+) -> Result<Breach, Memory>
     requires tables { KnowsDevice rec.now tables.now.bels.now tables.now.pins.now tables.now.wires.now }
     requires site_types { site_types.now ≡ map site_type_key rec.now.site_type_list }
     requires tiles { tiles.now ≡ map tile_key rec.now.tile_list }
@@ -119,7 +140,13 @@ fn from_wires(alloc: Global, rec: &DeviceRec, tables: &Tables<'_>, site_types: &
 }
 
 /// Names, and on.
-fn from_names(alloc: Global, rec: &DeviceRec, tables: &Tables<'_>, site_types: &mut Keys, tiles: &mut Keys) -> Result<Breach, Memory>
+fn from_names(
+    alloc: Global,
+    rec: &DeviceRec,
+    tables: &Tables<'_>,
+    site_types: &mut Keys,
+    tiles: &mut Keys,
+) -> Result<Breach, Memory>
     requires tables { KnowsDevice rec.now tables.now.bels.now tables.now.pins.now tables.now.wires.now }
     requires site_types { site_types.old ≡ [] }
     requires tiles { tiles.old ≡ [] }
@@ -145,10 +172,7 @@ fn by_tables(alloc: Global, rec: &DeviceRec, tables: &Tables<'_>) -> Result<Brea
 /// The first rule that the device breaks, and its first place in reading order; none of a valid device. Rules are asked in
 /// their order, each where all before it are kept. It takes time in proportion to the record, up to hashing. Where the
 /// record has more than 2^32 - 1 structs of a kind, or names in a table, `Memory` is told.
-pub fn first_broken_rule(
-    alloc: Global,
-    rec: &DeviceRec,
-) -> Result<Option<(Rule, Place)>, Memory>
+pub fn first_broken_rule(alloc: Global, rec: &DeviceRec) -> Result<Option<(Rule, Place)>, Memory>
     ensures { IfOk result (Shows (first_broken rec.now)) }
 {
     let bels = bels_of(alloc, &rec.site_type_list)?;

@@ -146,11 +146,7 @@ fn lut_bels_stand(
 }
 
 /// Adds the BELs of an element to the table.
-fn see_bels(
-    parts: &SiteTypeParts<'_>,
-    element: &LutElement,
-    seen: &mut Keys,
-) -> Result<(), Memory>
+fn see_bels(parts: &SiteTypeParts<'_>, element: &LutElement, seen: &mut Keys) -> Result<(), Memory>
     ensures { OnOk result (SameKeys seen.new (seen.old ++ element_keys parts.now.name element.now)) }
 {
     for i in 0..element.bels.len() {

@@ -158,12 +158,7 @@ fn sites_differ(sites: &Items<Site>, names: &mut Keys, walk: &mut Walk) -> Resul
 }
 
 /// The same of a tile's sites, and the tile's own name fits.
-fn tile_differs(
-    tile: &Tile,
-    fits: bool,
-    site_names: &mut Keys,
-    walk: &mut Walk,
-) -> Result<(), Stop>
+fn tile_differs(tile: &Tile, fits: bool, site_names: &mut Keys, walk: &mut Walk) -> Result<(), Stop>
     ensures walks { Walks ((begun "Tile" ∷ asked "Tile" "name" fits ∷ []) ++ each_by_earlier (site_is_new site_names.old) tile.now.sites) walk.old result walk.new }
     ensures names { OnOk result (SameKeys site_names.new (site_names.old ++ map site_key tile.now.sites)) }
 {

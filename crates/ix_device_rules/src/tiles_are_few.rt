@@ -30,13 +30,7 @@ fn directed_of(pip: &Pip) -> u128
 {
     match pip.kind {
         PipKind::PseudoCells => 0,
-        PipKind::Conventional => {
-            if pip.directional {
-                1
-            } else {
-                2
-            }
-        }
+        PipKind::Conventional => { if pip.directional { 1 } else { 2 } }
     }
 }
 

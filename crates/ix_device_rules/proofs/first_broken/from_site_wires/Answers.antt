@@ -1,4 +1,4 @@
-use Rattle.std.proofs.Common.{drop, Ok, None}
+use Rattle.std.proofs.Common.{drop}
 use Rattle.ix_rec.specs.declared.place.Rule.TheVariants as V
 use Rattle.ix_device_rules.specs.Rules
 use Rattle.ix_device_rules.proofs.KnownSteps.{known_pins}

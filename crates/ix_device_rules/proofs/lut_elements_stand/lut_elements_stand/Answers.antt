@@ -1,14 +1,7 @@
-use Rattle.std.proofs.Common.{◌≡◌, ◌∙◌, ◌++◌, ◌∷◌, ◌+◌, ◌<◌, ◌≤◌, ◌&&◌, ◌||◌, [], List, ℕ, Bool, true, false, not, take, drop, map, length, slice_get, Some, None, Option, Ok, Err, ap, refl, sym, subst, arith, rules}
-use Rattle.std.specs.List.{flat_map, list_any}
-use Rattle.ix_message.specs.Indexes.{Step, begun, asked}
-use Rattle.ix_keys.specs.declared.key.Key.{Key}
-use Rattle.ix_keys.specs.Keys.{key, key_eq, name_key, has_key, with_key}
-use Rattle.ix_device_rules.specs.Named.{name_is_new, site_key, site_is_new}
+use Rattle.std.proofs.Common.{take, refl, sym, subst, arith}
+use Rattle.ix_keys.specs.Keys.{key_eq, name_key}
 use Rattle.ix_device_rules.specs.Rules
-use Rattle.ix_device_rules.specs.Tables.{SameKeys, KnowsBels, KnowsPins, EachKnown}
-use Rattle.ix_device_rules.specs.Walks.{Walks}
-use Rattle.ix_device_rules.proofs.Steps.{walks_none, walks_then, walks_stop, stops_too, walks_as, by_earlier-same, flat_up_to, walks_first, walks_stop_first, asked_as, entered_as, each_none, each_more, each_stops, each_done, flat_none, flat_more, flat_stops, flat_done}
-use Rattle.ix_device_rules.proofs.TableLemmas.{same_none, same_more, same_as, same_begin, same_on, same_push, same_join, has_either, not_both, new_name}
+use Rattle.ix_device_rules.proofs.Steps.{walks_as, each_none, each_more, each_stops, each_done}
 use Rattle.std.proofs.Common.{position}
 use Rattle.ix_device_rules.proofs.Steps.{up_to}
 use Rattle.ix_device_rules.proofs.EntryLemmas.{Seen, seen_none, seen_more, entry_is}
@@ -18,7 +11,7 @@ pub loop-i-init : goal.loop-i-init
 loop-i-init c = record { walked = each_none (Rules.elements_stand c.args.rec.now) c.args.rec.now.lut_definitions.lut_elements c.args.walk.now; seen_are = seen_none c.args.rec.now _ c.new-seen.ensures }
 
 pub loop-i-preserved : goal.loop-i-preserved
-loop-i-preserved c = 
+loop-i-preserved c =
     let rec = c.args.rec.now in
     let entries = rec.lut_definitions.lut_elements in
     let e = c.at.result.now in
@@ -31,7 +24,7 @@ loop-i-preserved c =
 
 pub returns-in-Err : goal.returns-in-Err
 unfolding Rules.lut_elements_stand
-returns-in-Err c = 
+returns-in-Err c =
     let rec = c.args.rec.now in
     let entries = rec.lut_definitions.lut_elements in
     let e = c.at.result.now in

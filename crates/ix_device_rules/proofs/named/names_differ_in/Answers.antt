@@ -1,4 +1,4 @@
-use Rattle.std.proofs.Common.{◌≡◌, ◌∙◌, ◌++◌, ◌∷◌, [], not, take, map, ap, refl, sym}
+use Rattle.std.proofs.Common.{◌≡◌, ◌∙◌, not, take, map, ap}
 use Rattle.ix_keys.specs.Keys.{name_key, has_key, with_key}
 use Rattle.ix_device_rules.specs.Kinds.{kind_name, field_name}
 use Rattle.ix_device_rules.specs.Named.{name_is_new}

@@ -1,14 +1,8 @@
-use Rattle.std.proofs.Common.{◌≡◌, ◌∙◌, ◌++◌, ◌∷◌, ◌+◌, ◌<◌, ◌≤◌, ◌&&◌, ◌||◌, [], List, ℕ, Bool, true, false, not, take, drop, map, length, slice_get, Some, None, Option, Ok, Err, ap, refl, sym, subst, arith, rules}
-use Rattle.std.specs.List.{flat_map, list_any}
-use Rattle.ix_message.specs.Indexes.{Step, begun, asked}
-use Rattle.ix_keys.specs.declared.key.Key.{Key}
-use Rattle.ix_keys.specs.Keys.{key, key_eq, name_key, has_key, with_key}
-use Rattle.ix_device_rules.specs.Named.{name_is_new, site_key, site_is_new}
+use Rattle.std.proofs.Common.{◌≡◌, ◌∙◌, ◌++◌, not, take, map, ap}
+use Rattle.ix_keys.specs.Keys.{has_key}
 use Rattle.ix_device_rules.specs.Rules
-use Rattle.ix_device_rules.specs.Tables.{SameKeys, KnowsBels, KnowsPins, EachKnown}
-use Rattle.ix_device_rules.specs.Walks.{Walks}
-use Rattle.ix_device_rules.proofs.Steps.{walks_none, walks_then, walks_stop, stops_too, walks_as, by_earlier-same, flat_up_to, walks_first, walks_stop_first, asked_as, entered_as, each_none, each_more, each_stops, each_done, flat_none, flat_more, flat_stops, flat_done}
-use Rattle.ix_device_rules.proofs.TableLemmas.{same_none, same_more, same_as, same_begin, same_on, same_push, same_join, has_either, not_both, new_name}
+use Rattle.ix_device_rules.proofs.Steps.{entered_as, each_none, each_more, each_stops}
+use Rattle.ix_device_rules.proofs.TableLemmas.{new_name}
 use Rattle.ix_device_rules.specs.Named.{site_type_key}
 use Rattle.ix_device_rules.proofs.TableLemmas.{same_is, exact_more}
 use Rattle.ix_device_rules.proofs.Steps.{entered_fits}
@@ -18,7 +12,7 @@ pub loop-i-init : goal.loop-i-init
 loop-i-init c = record { walked = each_none Rules.site_type_names c.args.types.now c.args.walk.now; names_are = c.requires.names }
 
 pub loop-i-preserved : goal.loop-i-preserved
-loop-i-preserved c = 
+loop-i-preserved c =
     let x = c.at-site_type.result.now in
     let types = c.args.types.now in
     let before = take c.loop-i.i types in
@@ -32,7 +26,7 @@ loop-i-preserved c =
     }
 
 pub returns-in-Err-clause-walks : goal.returns-in-Err-clause-walks
-returns-in-Err-clause-walks c = 
+returns-in-Err-clause-walks c =
     let x = c.at-site_type.result.now in
     let types = c.args.types.now in
     let before = take c.loop-i.i types in

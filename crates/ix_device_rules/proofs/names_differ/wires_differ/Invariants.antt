@@ -1,10 +1,6 @@
-use Rattle.std.proofs.Common.{take, map, ◌++◌, Ok}
-use Rattle.std.specs.List.{flat_map}
-use Rattle.ix_keys.specs.Keys.{key, name_key}
-use Rattle.ix_device_rules.specs.Rules.{each_by_earlier, bel_pin_names, site_type_names, wire_names, tile_type_names, tile_names}
-use Rattle.ix_device_rules.specs.Named.{site_key, site_is_new}
-use Rattle.ix_device_rules.specs.Tables.{SameKeys}
-use Rattle.ix_device_rules.specs.Walks.{Walks}
+use Rattle.std.proofs.Common.{take, map}
+use Rattle.ix_keys.specs.Keys.{name_key}
+use Rattle.ix_device_rules.specs.Rules.{each_by_earlier, wire_names}
 use Rattle.ix_device_rules.proofs.LoopFacts.{Asked}
 use Rattle.ix_device_rules.proofs.names_differ.wires_differ.Given as goal
 

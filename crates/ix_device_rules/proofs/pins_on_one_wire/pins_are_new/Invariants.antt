@@ -1,10 +1,6 @@
-use Rattle.std.proofs.Common.{◌≡◌, ◌<◌, ◌≤◌, ◌+◌, ℕ, take, map, length, ◌++◌, Ok, Some, None, slice_get, List}
-use Rattle.std.specs.List.{flat_map}
-use Rattle.ix_keys.specs.Keys.{key, name_key, has_key}
+use Rattle.std.proofs.Common.{take, map, ◌++◌}
+use Rattle.ix_keys.specs.Keys.{name_key}
 use Rattle.ix_device_rules.specs.Rules
-use Rattle.ix_device_rules.specs.Named.{site_key, site_is_new}
-use Rattle.ix_device_rules.specs.Tables.{SameKeys, KnowsBels, KnowsPins, EachKnown}
-use Rattle.ix_device_rules.specs.Walks.{Walks}
 use Rattle.ix_device_rules.proofs.LoopFacts.{Asked}
 use Rattle.ix_device_rules.specs.Named.{pin_is_new}
 use Rattle.ix_device_rules.proofs.pins_on_one_wire.pins_are_new.Given as goal

@@ -1,13 +1,7 @@
-use Rattle.std.proofs.Common.{◌≡◌, ◌<◌, ◌≤◌, ◌+◌, ℕ, take, map, length, ◌++◌, Ok, Some, None, slice_get, List}
+use Rattle.std.proofs.Common.{take, Ok}
 use Rattle.std.specs.List.{flat_map}
-use Rattle.ix_keys.specs.Keys.{key, name_key, has_key}
-use Rattle.ix_device_rules.specs.Rules
-use Rattle.ix_device_rules.specs.Named.{site_key, site_is_new}
-use Rattle.ix_device_rules.specs.Tables.{SameKeys, KnowsBels, KnowsPins, EachKnown}
 use Rattle.ix_device_rules.specs.Walks.{Walks}
-use Rattle.ix_device_rules.proofs.LoopFacts.{Asked}
-use Rattle.ix_device_rules.specs.TileWires.{wire_key, wire_keys, node_keys, wire_is_free}
-use Rattle.ix_device_rules.proofs.TileWireLemmas.{node_steps}
+use Rattle.ix_device_rules.specs.TileWires.{wire_is_free}
 use Rattle.ix_device_rules.proofs.wires_stand.wires_are_free.Given as goal
 
 abbrev pub invariant-loop-i : goal.invariant-loop-i

@@ -1,5 +1,5 @@
 -- Whether a BEL admits a cell type, condition by condition.
-use Rattle.std.proofs.Common.{◌≡◌, refl, ap, sym, ◌∙◌, ℕ, Bool, true, false, ◌&&◌, List, [], ◌∷◌, map, slice_get, Option, Some, None, option_map, option_and_then, unwrap_or, if◌then◌else◌}
+use Rattle.std.proofs.Common.{◌≡◌, refl, ap, ◌∙◌, ℕ, true, false, ◌&&◌, List, [], ◌∷◌, map, slice_get, Option, Some, None, option_and_then, unwrap_or, if◌then◌else◌}
 use Rattle.ix_keys.specs.Keys.{key}
 use Rattle.ix_first.specs.First.{value_at}
 use Rattle.ix_num.specs.declared.ids.BelPinId.{BelPinId}

@@ -1,12 +1,12 @@
 -- What the table of listings says of a cell type's first pin map.
-use Rattle.std.proofs.Common.{◌≡◌, refl, ap, sym, ◌∙◌, ℕ, zero, suc, ◌+◌, Bool, true, false, cond, nat_eq, List, [], ◌∷◌, slice_get, find, Option, Some, None, option_and_then, if◌then◌else◌, arith}
+use Rattle.std.proofs.Common.{◌≡◌, refl, ap, sym, ◌∙◌, ℕ, suc, ◌+◌, Bool, true, false, cond, nat_eq, List, [], ◌∷◌, slice_get, find, Some, None, option_and_then, if◌then◌else◌, arith}
 use Rattle.std.proofs.lemmas.Option.{none-some, same_Some}
 use Rattle.ix_rec.specs.declared.device.DeviceRec.{DeviceRec}
 use Rattle.ix_rec.specs.declared.device.SiteType.{SiteType}
 use Rattle.ix_rec.specs.declared.device.CellBelMapping.{CellBelMapping}
 use Rattle.ix_rec.specs.declared.device.CommonCellBelPinMaps.{CommonCellBelPinMaps}
 use Rattle.ix_device.specs.declared.admissions.Listing.{Listing}
-use Rattle.ix_device.specs.Admission.{lists_bel, fits_bel, first_map}
+use Rattle.ix_device.specs.Admission.{lists_bel, fits_bel}
 use Rattle.ix_device.specs.Listed.{listing, listed_in, listed_from}
 
 -- a listing names a map of these, its place counted from here

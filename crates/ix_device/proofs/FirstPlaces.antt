@@ -1,7 +1,6 @@
 -- The first place in a list, item by item.
-use Rattle.std.proofs.Common.{◌≡◌, ◌<◌, ◌≤◌, ◌⊎◌, inl, inr, refl, ap, sym, ◌∙◌, ℕ, suc, zero, ◌+◌, Bool, true, false, cond, not, nat_lt, List, [], ◌∷◌, ◌++◌, take, length, slice_get, Option, Some, None, option_map, is_some, ◌||◌, arith}
+use Rattle.std.proofs.Common.{◌≡◌, ◌<◌, ◌≤◌, refl, ap, sym, ◌∙◌, ℕ, suc, ◌+◌, Bool, true, false, cond, not, nat_lt, List, [], ◌∷◌, ◌++◌, take, length, slice_get, Option, Some, None, option_map, is_some, ◌||◌, arith}
 use Rattle.std.specs.List.{find, position, position_or_len, list_any}
-use Rattle.std.proofs.lemmas.List.{length-take-le}
 use Rattle.std.proofs.lemmas.Bool.{lt-ltb, le-ltb, ltb-true, ltb-false}
 use Rattle.ix_first.specs.First.{or_later}
 use Rattle.ix_device.proofs.Walks.{take_next, length_take}

@@ -1,18 +1,17 @@
 -- What a device that breaks no rule has: site types of different names.
-use Rattle.std.proofs.Common.{◌≡◌, refl, ap, sym, ◌∙◌, ℕ, zero, suc, ◌+◌, Bool, true, false, true≢false, cond, not, ◌&&◌, ◌||◌, nat_eq, List, [], ◌∷◌, ◌++◌, map, take, drop, length, slice_get, position, Option, Some, None, is_some, append_assoc, append-nil, take-append-drop, arith}
+use Rattle.std.proofs.Common.{◌≡◌, refl, ap, sym, ◌∙◌, ℕ, zero, suc, ◌+◌, Bool, true, false, true≢false, not, ◌&&◌, ◌||◌, nat_eq, List, [], ◌∷◌, ◌++◌, map, take, drop, length, slice_get, position, Option, Some, None, is_some, append_assoc, append-nil, take-append-drop}
 use Rattle.std.specs.List.{list_any, flat_map}
 use Rattle.std.proofs.lemmas.Option.{none-some, same_Some}
-use Rattle.std.proofs.lemmas.Bool.{eqb-true, eq-eqb}
+use Rattle.std.proofs.lemmas.Bool.{eq-eqb}
 use Rattle.ix_message.specs.Indexes.{Step, begun, asked, Item, first_unfit}
 use Rattle.ix_rec.specs.declared.device.DeviceRec.{DeviceRec}
 use Rattle.ix_rec.specs.declared.device.SiteType.{SiteType}
 use Rattle.ix_rec.specs.declared.place.Rule.{Rule}
 use Rattle.ix_rec.specs.declared.place.Rule.TheVariants.{M1}
-use Rattle.ix_device_rules.specs.Rules.{is_new, by_earlier, each_by_earlier, site_type_names, tile_type_names, tile_names, cell_names, names_differ, rules, or_later as later_rule, first_of_rules, first_broken}
+use Rattle.ix_device_rules.specs.Rules.{is_new, by_earlier, each_by_earlier, site_type_names, tile_type_names, tile_names, cell_names, names_differ, or_later as later_rule, first_broken}
 use Rattle.ix_first.specs.First.{or_later}
 use Rattle.ix_device.specs.Premises.{TypesDiffer}
 use Rattle.ix_device.proofs.FirstPlaces.{position-push, is_some_position, one_more_place}
-use Rattle.ix_device.proofs.Walks.{take_next, length_take}
 use Rattle.ix_device.proofs.Differing.{nat_eq_sym}
 
 -- every field that is asked fits

@@ -1,5 +1,5 @@
 -- Which BELs admit which cell types.
-use Rattle.std.specs.Prelude.{ℕ, List, [], ◌∷◌, length, map, slice_get, Bool, true, false, ◌&&◌, nat_le, nat_eq, Option, Some, None, is_some, option_map, unwrap_or, if◌then◌else◌, option_and_then}
+use Rattle.std.specs.Prelude.{ℕ, List, length, map, slice_get, Bool, true, false, ◌&&◌, nat_le, nat_eq, Option, Some, None, option_map, unwrap_or, if◌then◌else◌, option_and_then}
 use Rattle.std.specs.List.{list_any, list_all, find}
 use Rattle.ix_rec.specs.declared.device.DeviceRec.{DeviceRec}
 use Rattle.ix_rec.specs.declared.device.SiteType.{SiteType}
@@ -8,7 +8,6 @@ use Rattle.ix_rec.specs.declared.device.Category.{Category}
 use Rattle.ix_rec.specs.declared.device.Category.TheVariants.{Logic, Routing, SitePort}
 use Rattle.ix_rec.specs.declared.device.CommonCellBelPinMaps.{CommonCellBelPinMaps}
 use Rattle.ix_rec.specs.declared.device.CellBelPinEntry.{CellBelPinEntry}
-use Rattle.ix_rec.specs.declared.device.LutElement.{LutElement}
 use Rattle.ix_device_rules.specs.Rules.{has_pin}
 use Rattle.ix_device.specs.Lookups.{pin_of_bel}
 use Rattle.ix_device.specs.Elements.{differ, lut_inputs_of, elements_of, element_of_bel, is_usable}

@@ -1,6 +1,6 @@
 -- LUT types, and the LUT elements of site types.
-use Rattle.std.specs.Prelude.{ℕ, List, [], ◌∷◌, ◌++◌, length, map, slice_get, Bool, true, false, not, ◌&&◌, nat_le, nat_eq, Option, Some, None, is_some, option_map, if◌then◌else◌, option_and_then}
-use Rattle.std.specs.List.{list_any, flat_map, list_all, position, find}
+use Rattle.std.specs.Prelude.{ℕ, List, [], ◌∷◌, length, map, slice_get, Bool, true, false, ◌&&◌, nat_le, nat_eq, Option, Some, None, is_some, option_map, if◌then◌else◌, option_and_then}
+use Rattle.std.specs.List.{flat_map, list_all, position, find}
 use Rattle.ix_rec.specs.declared.device.DeviceRec.{DeviceRec}
 use Rattle.ix_rec.specs.declared.device.SiteType.{SiteType}
 use Rattle.ix_rec.specs.declared.device.LutCell.{LutCell}
@@ -9,7 +9,7 @@ use Rattle.ix_rec.specs.declared.device.LutElement.{LutElement}
 use Rattle.ix_rec.specs.declared.device.LutEquation.{LutEquation}
 use Rattle.ix_rec.specs.declared.device.LutEquation.TheVariants.{Invalid, InitParam}
 use Rattle.ix_device_rules.specs.Rules.{is_new, element_has, elements_for}
-use Rattle.ix_device.specs.Lookups.{in_type, pin_of_bel, wire_in}
+use Rattle.ix_device.specs.Lookups.{pin_of_bel, wire_in}
 
 -- no two of these are alike
 abbrev pub differ : List ℕ → Bool

@@ -1,9 +1,8 @@
 -- What a device's record has under a name or a number. A name's first bearer counts; in a valid device there is one.
-use Rattle.std.specs.Prelude.{ℕ, ◌+◌, List, [], ◌∷◌, ◌++◌, map, slice_get, Option, Some, None, option_map, nat_eq, option_and_then}
+use Rattle.std.specs.Prelude.{ℕ, ◌+◌, List, [], ◌∷◌, ◌++◌, map, slice_get, Option, option_map, nat_eq, option_and_then}
 use Rattle.std.specs.List.{list_any, position}
 use Rattle.ix_rec.specs.declared.device.DeviceRec.{DeviceRec}
 use Rattle.ix_rec.specs.declared.device.SiteType.{SiteType}
-use Rattle.ix_rec.specs.declared.device.Bel.{Bel}
 use Rattle.ix_rec.specs.declared.device.Tile.{Tile}
 use Rattle.ix_rec.specs.declared.device.Site.{Site}
 use Rattle.ix_rec.specs.declared.device.TileType.{TileType}

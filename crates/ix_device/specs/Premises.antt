@@ -1,5 +1,5 @@
 -- What the table of admissions asks of a device and of the tables of its site types.
-use Rattle.std.specs.Prelude.{◌≡◌, ℕ, List, length, slice_get, Option, Some, nat_eq}
+use Rattle.std.specs.Prelude.{◌≡◌, ℕ, List, length, slice_get, Some, nat_eq}
 use Rattle.std.specs.List.{position}
 use Rattle.ix_keys.specs.Keys.{key}
 use Rattle.ix_first.specs.First.{value_at}

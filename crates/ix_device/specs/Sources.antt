@@ -1,12 +1,11 @@
 -- The constants that a device has.
-use Rattle.std.specs.Prelude.{ℕ, List, [], ◌∷◌, length, map, slice_get, Bool, true, false, ◌&&◌, ◌||◌, nat_lt, nat_eq, Option, Some, None, is_some, option_map, unwrap_or, option_and_then}
+use Rattle.std.specs.Prelude.{ℕ, List, [], ◌∷◌, length, slice_get, Bool, true, false, ◌&&◌, ◌||◌, nat_lt, nat_eq, Option, Some, None, is_some, option_map, unwrap_or, option_and_then}
 use Rattle.std.specs.List.{list_any}
 use Rattle.ix_num.specs.declared.resource.Constant.{Constant}
 use Rattle.ix_num.specs.declared.resource.Constant.TheVariants.{Gnd, Vcc}
 use Rattle.ix_rec.specs.declared.device.ConstantPreference.{ConstantPreference}
 use Rattle.ix_rec.specs.declared.device.ConstantPreference.TheVariants as pref
 use Rattle.ix_rec.specs.declared.device.DeviceRec.{DeviceRec}
-use Rattle.ix_rec.specs.declared.device.Constants.{Constants}
 use Rattle.ix_rec.specs.declared.device.SiteType.{SiteType}
 use Rattle.ix_rec.specs.declared.device.Tile.{Tile}
 use Rattle.ix_rec.specs.declared.device.TileType.{TileType}

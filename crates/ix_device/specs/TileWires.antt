@@ -1,5 +1,5 @@
 -- The table of the wires of tile types. A key is a tile type's number and a wire's name.
-use Rattle.std.specs.Prelude.{ℕ, Bool, ◌&&◌, List, nat_eq, slice_get, position, Option, Some, None, option_and_then, if◌then◌else◌}
+use Rattle.std.specs.Prelude.{ℕ, Bool, ◌&&◌, List, nat_eq, slice_get, Option, None, option_and_then, if◌then◌else◌}
 use Rattle.ix_keys.specs.declared.key.Key.{Key}
 use Rattle.ix_rec.specs.declared.device.TileType.{TileType}
 use Rattle.ix_device.specs.Lookups.{wire_of_type}

@@ -33,21 +33,21 @@ pub weaker : {A E : Type 0} (P Q : A → Type 0) (r : Result A E) → IfOk r P �
 weaker P Q (Ok x) h next = next x h
 weaker P Q (Err e) h next = tt
 
-when_blamed : {A : Type 0} (P : A → Type 0) (s w : ℕ) (r : Result A FrameRule) → IfOk r P → IfOk (blamed s w r) P
+pub when_blamed : {A : Type 0} (P : A → Type 0) (s w : ℕ) (r : Result A FrameRule) → IfOk r P → IfOk (blamed s w r) P
 when_blamed P s w (Ok x) h = h
 when_blamed P s w (Err e) h = tt
 
-by_test : {A E : Type 0} (P : A → Type 0) (b : Bool) (r q : Result A E) → (b ≡ true → IfOk r P) → (b ≡ false → IfOk q P) → IfOk (if b then r else q) P
+pub by_test : {A E : Type 0} (P : A → Type 0) (b : Bool) (r q : Result A E) → (b ≡ true → IfOk r P) → (b ≡ false → IfOk q P) → IfOk (if b then r else q) P
 by_test P true r q passes fails = passes refl
 by_test P false r q passes fails = fails refl
 
-tested : {E : Type 0} (b : Bool) (e : E) → IfOk (unless b e) (λ _. b ≡ true)
+pub tested : {E : Type 0} (b : Bool) (e : E) → IfOk (unless b e) (λ _. b ≡ true)
 tested true e = refl
 tested false e = tt
 
 -- The cost of each kind of object.
 
-charged_left : (cost budget : ℕ) → IfOk (charged cost budget) (λ left. left + cost ≤ budget)
+pub charged_left : (cost budget : ℕ) → IfOk (charged cost budget) (λ left. left + cost ≤ budget)
 charged_left cost budget =
     by_test (λ left. left + cost ≤ budget) (nat_le cost budget) (Ok (budget - cost)) _ (λ e. let le = leb-true cost budget e in omega arith) (λ e. tt)
 
@@ -175,7 +175,7 @@ each_left {A} structs_of texts_of read one (suc n) l i budget =
     and_then (λ x. (sum_by structs_of x.0 + x.1 ≤ first.1 + n) × (paid_texts (flat_map texts_of x.0) + x.1 ≤ first.1)) P (each_from read n l (i + 1) first.1) _ (each_left structs_of texts_of read one n l (i + 1) first.1) (λ others k.
     (omega (arith, h.0, k.0, sum_by-cons structs_of first.0 others.0), omega (arith, h.1, k.1, sum_by-append paid_text (texts_of first.0) (flat_map texts_of others.0)))))
 
-branches_left : (bound : ℕ) (fields : List Field) (n : ℕ) (l : Elements) (i budget : ℕ) → IfOk (branches_from bound fields n l i budget) (λ x. branches_in x.0 + x.1 ≤ budget + n)
+pub branches_left : (bound : ℕ) (fields : List Field) (n : ℕ) (l : Elements) (i budget : ℕ) → IfOk (branches_from bound fields n l i budget) (λ x. branches_in x.0 + x.1 ≤ budget + n)
 unfolding branches_from
 branches_left bound fields zero l i budget = omega arith
 branches_left zero fields (suc n) l i budget = omega arith
@@ -223,7 +223,7 @@ abbrev mutual
   part_lists_paid (string_table c ps) = part_lists_paid ps
   part_lists_paid (unread c ps) = part_lists_paid ps
 
-both : (a b : Bool) → (a && b) ≡ true → (a ≡ true) × (b ≡ true)
+pub both : (a b : Bool) → (a && b) ≡ true → (a ≡ true) × (b ≡ true)
 both true b h = (refl, h)
 both false b h = absurd (cc)
 

@@ -5,6 +5,7 @@ pub mod Bound
 pub mod ByTable
 pub mod Each
 pub mod Flags
+pub mod Longest
 pub mod Naming
 pub mod Root
 pub mod Tallied

@@ -1,6 +1,6 @@
 -- The whole reading: from the numbers of a message and its names to what is told.
-use Rattle.std.proofs.Common.{◌≡◌, ◌≤◌, ◌<◌, ◌+◌, ◌-◌, ◌^◌, ◌++◌, ℕ, List, [], ◌∷◌, length, map, refl, ap, arith}
-use Rattle.std.specs.Prelude.{Option, Some, None, Ok, Err}
+use Rattle.std.proofs.Common.{subst, ◌≡◌, ◌≤◌, ◌<◌, ◌+◌, ◌-◌, ◌^◌, ◌++◌, ℕ, List, [], ◌∷◌, length, map, refl, ap, arith}
+use Rattle.std.specs.Prelude.{Option, Some, None, Result, Ok, Err, IfOk}
 use Rattle.std.specs.List.{AllByRecursion, flat_map}
 use Rattle.std.proofs.lemmas.Option.{get_or_from_slice_get}
 use Rattle.ix_frame.specs.declared.frame.Frame.{Frame}
@@ -8,6 +8,7 @@ use Rattle.ix_frame.specs.Segments.{Segments, segment_count}
 use Rattle.ix_frame.specs.Views.{segments_of}
 use Rattle.ix_frame.specs.Objects.{whole_budget}
 use Rattle.ix_frame.proofs.Parts.{budget_of, budget_short}
+use Rattle.ix_rec.specs.declared.fault.ReadFault.{ReadFault}
 use Rattle.ix_rec.specs.declared.place.Place.{Place}
 use Rattle.ix_rec.specs.declared.place.Place.TheVariants.{Item as Field}
 use Rattle.ix_message.specs.Device.{device}
@@ -20,7 +21,7 @@ use Rattle.ix_device_read.specs.Finish.{bad, unnamed}
 use Rattle.ix_device_read.specs.Loose.{loose_texts, loose_parts, HasRoom, Grows, AreNumbersOf}
 use Rattle.ix_device_read.specs.Numbers.{name_text}
 use Rattle.ix_device_read.specs.Premises.{IsKnown, TextsKnown, PartsKnown, structs_in}
-use Rattle.ix_device_read.specs.Reading.{reading_in_segments, record_unless_bad, IsBadField, FileReads}
+use Rattle.ix_device_read.specs.Reading.{reading_in_segments, record_unless_bad, IsBadField, FileReads, IsReading}
 use Rattle.ix_device_read.specs.Sizes.{finished_as}
 use Rattle.ix_device_read.specs.Views.{IsBadAt}
 use Rattle.ix_device_read.proofs.Adding.{reach_most}
@@ -52,6 +53,12 @@ bad_is (Some found) whole item h = let e : found ≡ item = cc in ap (λ x. Err 
 pub bad_field : {Y : Type 0} (p : Place) (first : Option Item) (whole : Y) → IsBadAt p (finished_as first whole) → IsBadField p (unless_bad first whole)
 bad_field (Field k f i) first whole h = bad_is first whole (record { kind = k; field = f; index = i }) h
 bad_field _ first whole h = absurd h
+
+-- what holds of the record that a message stands for holds of what was read
+pub read_has : {X Y : Type 0} (view : X → Y) (P : Y → Type 0) (r : Result X ReadFault) (first : Option Item) (whole : Y) → IsReading view r (unless_bad first whole) → P whole → IfOk r (λ x. P (view x))
+read_has view P (Ok x) None whole h p = let e : whole ≡ view x = cc in subst P e p
+read_has view P (Ok x) (Some item) whole h p = absurd (cc)
+read_has view P (Err e) first whole h p = tt
 
 -- Texts that stand behind pointers are known where all of them are.
 

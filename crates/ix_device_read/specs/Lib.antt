@@ -1,5 +1,6 @@
 pub mod Finish
 pub mod Finishing
+pub mod Long
 pub mod Loose
 pub mod Named
 pub mod Numbers

@@ -21,7 +21,5 @@ mod tile;
 mod tile_type;
 mod walk;
 
-pub use device::finish_device;
 pub use laws::{files_read_as_their_segments, finishing_is_reading};
 pub use read::read_device;
-pub use stop::Stop;

@@ -3,8 +3,10 @@
 ghost use Rattle.std.specs.Prelude.{◌≡◌, ◌+◌, ◌-◌, ◌^◌, ◌<◌, ◌≤◌, ◌++◌, map, length, IfOk};
 ghost use Rattle.ix_frame.specs.Views.{segments_of};
 ghost use Rattle.ix_message.specs.Device.{device};
+ghost use Rattle.ix_message.specs.Names.{Datum};
 ghost use Rattle.ix_strings.specs.Names.{KeepsNumbers};
 ghost use Rattle.ix_device_raw.specs.Raw.{device_numbers};
+ghost use Rattle.ix_device_read.specs.Long.{ListsWithin};
 ghost use Rattle.ix_device_read.specs.Loose.{loose_texts, Adds, AreNumbersOf, HasRoom};
 ghost use Rattle.ix_device_read.specs.Named.{limit, DeviceNamed};
 ghost use Rattle.ix_device_read.specs.Numbers.{name_text};
@@ -62,7 +64,8 @@ fn finish_named(
 /// The record of a frame's device resources, whose texts are added to the names. Else the first rule that the whole frame
 /// breaks, in reading order, and after that the first index, enumerant or tag that is out of its list.
 ///
-/// At most 2^28 + 66 names are added, also where there is no record, and each name keeps its number.
+/// At most 2^28 + 66 names are added, also where there is no record, and each name keeps its number. No list of the record
+/// has more than 2^28 + 64 entries.
 pub fn read_device(
     alloc: Global,
     frame: &Frame<'_>,
@@ -71,6 +74,7 @@ pub fn read_device(
     requires { length names.old + 2 ^ 28 + 66 < 2 ^ 32 - 1 }
     ensures reading { IsReading (device_record names.new) result (reading_in_segments device (segments_of frame.now)) }
     ensures named { IfOk result (DeviceNamed (length names.new)) }
+    ensures lists { IfOk result (λ rec. ListsWithin (2 ^ 28 + 64) Datum device (device_record names.new rec)) }
     ensures keeps { KeepsNumbers names.old names.new }
     ensures most { length names.new ≤ length names.old + 2 ^ 28 + 66 }
 {

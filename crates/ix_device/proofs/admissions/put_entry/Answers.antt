@@ -1,4 +1,4 @@
-use Rattle.std.proofs.Common.{◌≡◌, ap, sym, ◌∙◌, slice_get}
+use Rattle.std.proofs.Common.{ap, sym, ◌∙◌, slice_get}
 use Rattle.ix_keys.specs.Keys.{name_key}
 use Rattle.ix_first.specs.First.{value_at}
 use Rattle.ix_device.proofs.Listings.{passed_entry, put_of_entry}

@@ -1,4 +1,4 @@
-use Rattle.std.proofs.Common.{◌≡◌, ℕ, ap, sym, subst, take, ◌≤◌, length, arith, take_all}
+use Rattle.std.proofs.Common.{subst, ◌≤◌, length, arith, take_all}
 use Rattle.ix_device.specs.Listed.{PutsMap}
 use Rattle.ix_device.proofs.Listings.{one_more_entry}
 use Rattle.ix_device.proofs.admissions.put_map.Goals as goal

@@ -1,12 +1,9 @@
-use Rattle.std.proofs.Common.{◌≡◌, ap, sym, ◌∙◌, Option, Some, None, slice_get}
+use Rattle.std.proofs.Common.{ap, sym, ◌∙◌, Some, slice_get}
 use Rattle.std.proofs.lemmas.Option.{slice_get_within, same_Some}
-use Rattle.ix_keys.specs.Keys.{key}
 use Rattle.ix_first.specs.First.{value_at}
-use Rattle.ix_device.specs.declared.admissions.Listing.{Listing}
 use Rattle.ix_device.specs.Admission.{fits_bel}
-use Rattle.ix_device.specs.Listed.{listed_from}
 use Rattle.ix_device.proofs.Listings.{same_key}
-use Rattle.ix_device.proofs.FirstMaps.{IsFirst, listed_is, listed_none, mapping_stands, map_is}
+use Rattle.ix_device.proofs.FirstMaps.{listed_is, listed_none, mapping_stands, map_is}
 use Rattle.ix_device.proofs.admitted.first_map.Goals as goal
 
 pub returns-in-None-clause-first : goal.returns-in-None-clause-first

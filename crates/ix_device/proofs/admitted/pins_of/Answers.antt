@@ -1,4 +1,4 @@
-use Rattle.std.proofs.Common.{◌≡◌, ap, sym, ◌∙◌, slice_get, unwrap_or, None, Some}
+use Rattle.std.proofs.Common.{ap, sym, ◌∙◌, slice_get, unwrap_or, None, Some}
 use Rattle.ix_first.specs.First.{value_of}
 use Rattle.ix_device.specs.Elements.{lut_inputs_of}
 use Rattle.ix_device.specs.Admission.{has_inputs}

@@ -1,4 +1,4 @@
-use Rattle.std.proofs.Common.{sym, slice_get, unwrap_or, false}
+use Rattle.std.proofs.Common.{sym}
 use Rattle.ix_device.specs.Sources.{is_source}
 use Rattle.ix_device.proofs.Walks.{any_at, none_next}
 use Rattle.ix_device.proofs.constants.a_source_stands.Goals as goal

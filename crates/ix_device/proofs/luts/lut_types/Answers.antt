@@ -1,4 +1,4 @@
-use Rattle.std.proofs.Common.{◌≡◌, ℕ, Bool, true, false, ◌&&◌, refl, ap, sym, ◌∙◌, length, nat_eq}
+use Rattle.std.proofs.Common.{◌≡◌, Bool, true, false, ◌&&◌, refl, ap, sym, ◌∙◌, length, nat_eq}
 use Rattle.ix_keys.specs.Keys.{name_key, key_eq}
 use Rattle.ix_first.specs.First.{value_at, or_later}
 use Rattle.ix_device.specs.Elements.{is_lut_cell}

@@ -1,4 +1,4 @@
-use Rattle.std.proofs.Common.{◌≡◌, ℕ, map-id, ap, sym, ◌∙◌, map, take, is_none}
+use Rattle.std.proofs.Common.{◌≡◌, map-id, ap, sym, ◌∙◌, map, take, is_none}
 use Rattle.ix_keys.specs.Keys.{name_key, key_eq}
 use Rattle.ix_first.specs.First.{value_at, or_later}
 use Rattle.ix_device_rules.specs.Rules.{is_new}

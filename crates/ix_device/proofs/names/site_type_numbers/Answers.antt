@@ -1,4 +1,4 @@
-use Rattle.std.proofs.Common.{◌≡◌, ℕ, ap, ◌∙◌, nat_eq}
+use Rattle.std.proofs.Common.{ap, ◌∙◌, nat_eq}
 use Rattle.ix_keys.specs.Keys.{name_key, key_eq}
 use Rattle.ix_first.specs.First.{value_at, or_later}
 use Rattle.ix_device.proofs.FirstPlaces.{one_more_place}

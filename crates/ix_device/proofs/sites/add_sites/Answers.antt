@@ -1,5 +1,5 @@
-use Rattle.std.proofs.Common.{rules, ap, ◌∙◌, ◌≡◌, ◌<◌, ◌+◌, ◌++◌, length, map, slice_get, Some, IfOk, OnOk, ℕ, ◌-◌, ◌*◌, ◌≤◌, ◌/◌, ◌%◌, Bool, true, false, nat_eq, nat_lt, List, [], ◌∷◌, slice_index_or, slice_set, bit_and, bit_or, Fits, w8, w32, w64, Bor, MutBor}
-use Rattle.ix_device.specs.Tables.{entry_told, told_in, AreSites}
+use Rattle.std.proofs.Common.{ap, ◌∙◌, map}
+use Rattle.ix_device.specs.Tables.{entry_told}
 use Rattle.ix_device.proofs.SiteLemmas.{one_more_site}
 use Rattle.ix_device.proofs.sites.add_sites.Goals as goal
 

@@ -1,6 +1,6 @@
-use Rattle.std.proofs.Common.{◌≡◌, ap, ◌∙◌, ◌++◌, map}
+use Rattle.std.proofs.Common.{ap, ◌∙◌, ◌++◌, map}
 use Rattle.ix_device.specs.Lookups.{sites_from}
-use Rattle.ix_device.specs.Tables.{entry_told, told_in, told_of}
+use Rattle.ix_device.specs.Tables.{entry_told, told_in}
 use Rattle.ix_device.proofs.Walks.{at_place}
 use Rattle.ix_device.proofs.SiteLemmas.{type_within, sites_fit, one_more_tile}
 use Rattle.ix_device.proofs.sites.site_entries.Goals as goal

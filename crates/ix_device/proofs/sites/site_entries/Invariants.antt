@@ -1,4 +1,4 @@
-use Rattle.std.proofs.Common.{◌≡◌, ℕ, map, take}
+use Rattle.std.proofs.Common.{◌≡◌, map, take}
 use Rattle.ix_device.specs.Lookups.{sites_from}
 use Rattle.ix_device.specs.Tables.{entry_told, told_of}
 use Rattle.ix_device.proofs.sites.site_entries.Given as goal

@@ -1,14 +1,18 @@
-use Rattle.std.proofs.Common.{◌≡◌, ◌∙◌, ℕ, List, length, map, ap, sym, subst}
+use Rattle.std.proofs.Common.{◌≡◌, ◌∙◌, ◌+◌, ◌^◌, ℕ, List, length, map, ap, sym, subst, arith}
 use Rattle.std.specs.Prelude.{IfOk}
 use Rattle.ix_frame.specs.Views.{segments_of}
 use Rattle.ix_message.specs.Shape.{Text}
 use Rattle.ix_message.specs.Device.{device}
 use Rattle.ix_device_raw.specs.Raw.{device_numbers}
+use Rattle.ix_message.specs.Names.{Datum, record_of}
+use Rattle.ix_message.specs.Indexes.{first_bad}
+use Rattle.ix_device_read.specs.Long.{ListsWithin}
 use Rattle.ix_device_read.specs.Named.{limit, DeviceNamed}
 use Rattle.ix_device_read.specs.Numbers.{name_text}
 use Rattle.ix_device_read.specs.Reading.{reading_in_segments, record_unless_bad, IsReading}
 use Rattle.ix_device_read.specs.Records.{device_record}
-use Rattle.ix_device_read.proofs.Whole.{device_room, device_few, device_most, behind_known, texts_again, of_numbers}
+use Rattle.ix_device_read.proofs.Whole.{read_has, frame_budget, device_room, device_few, device_most, behind_known, texts_again, of_numbers}
+use Rattle.ix_device_read.proofs.Longest.{device_lists}
 use Rattle.ix_device_read.proofs.Naming.{limit_is}
 use Rattle.ix_device_read.proofs.read.read_device.Goals as goal
 
@@ -47,3 +51,12 @@ returns-clause-named c =
     let names = c.add_names.new.names in
     let same : limit c.as_slice.result.now names ≡ length names = ap (λ (ids : List ℕ). limit ids names) c.as_slice.ensures ∙ limit_is names c.in-Ok-add_names.strings (map (λ t. t.now) c.in-Ok.raw.table) c.in-Ok-add_names.ensures.numbers in
     subst (λ (n : ℕ). IfOk c.finish_named.result (DeviceNamed n)) same c.finish_named.ensures.named
+
+pub returns-clause-lists : goal.returns-clause-lists
+returns-clause-lists c =
+    let names = c.add_names.new.names in
+    let table = map (λ t. t.now) c.in-Ok.raw.table in
+    let v = device_numbers c.in-Ok.raw.root in
+    let again : map (name_text names) c.as_slice.result.now ≡ table = ap (map (name_text names)) c.as_slice.ensures ∙ texts_again names c.in-Ok-add_names.strings table c.in-Ok-add_names.ensures.numbers in
+    let short = device_lists c.args.frame.now (2 ^ 28 + 64) table v (omega arith) (frame_budget c.args.frame.now) c.in-Ok.ensures in
+    read_has (device_record names) (ListsWithin (2 ^ 28 + 64) Datum device) c.finish_named.result (first_bad device (length table) v) (record_of table device v) (subst (λ (ts : List Text). IsReading (device_record names) c.finish_named.result (record_unless_bad ts device v)) again c.finish_named.ensures.reading) short

@@ -1,4 +1,4 @@
-use Rattle.std.proofs.Common.{◌≡◌, ap, sym, ◌∙◌, slice_get}
+use Rattle.std.proofs.Common.{ap, sym, ◌∙◌, slice_get}
 use Rattle.ix_device.specs.Lookups.{name_of_site, tile_of_site, type_of_site}
 use Rattle.ix_device.proofs.SiteLemmas.{tells}
 use Rattle.ix_device.proofs.device.Device.entry.Goals as goal

@@ -1,4 +1,4 @@
-use Rattle.std.proofs.Common.{◌≡◌, ap, sym, ◌∙◌}
+use Rattle.std.proofs.Common.{ap, ◌∙◌}
 use Rattle.ix_keys.specs.Keys.{name_key}
 use Rattle.ix_first.specs.First.{value_at}
 use Rattle.ix_device.specs.Lookups.{site_named}

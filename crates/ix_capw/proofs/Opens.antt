@@ -1,5 +1,5 @@
 -- The file of one segment opens as that segment.
-use Rattle.std.proofs.Common.{◌≡◌, ◌<◌, ◌≤◌, ◌+◌, ◌*◌, ◌/◌, ◌%◌, ◌^◌, ◌++◌, ◌∙◌, [], ◌∷◌, List, ℕ, Bool, true, false, length, take, drop, ap, sym, arith, refl, Ok, Err, nat_lt, nat_eq}
+use Rattle.std.proofs.Common.{◌≡◌, ◌<◌, ◌+◌, ◌*◌, ◌%◌, ◌^◌, ◌++◌, [], ◌∷◌, List, ℕ, true, false, length, take, arith, refl, Ok, nat_lt, nat_eq}
 use Rattle.std.proofs.lemmas.Bool.{le-ltb, eq-eqb}
 use Rattle.std.proofs.lemmas.List.{take_all}
 use Rattle.byteorder.specs.Endian.{little_bytes, little_number}

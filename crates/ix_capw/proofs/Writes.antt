@@ -1,5 +1,5 @@
 -- What a write into the tail of a slice leaves.
-use Rattle.std.proofs.Common.{◌≡◌, ◌≤◌, ◌+◌, ◌-◌, ◌++◌, ◌∙◌, [], List, ℕ, length, take, drop, ap, sym, arith, refl, length-drop}
+use Rattle.std.proofs.Common.{◌≡◌, ◌+◌, ◌-◌, ◌++◌, ◌∙◌, [], List, ℕ, length, take, drop, ap, arith, length-drop}
 use Rattle.std.proofs.lemmas.List.{take_all, drop_all, drop-drop, append-nil}
 use borrow.Rule.Slice.PartMut.{put_mid, mid_of, post_of}
 

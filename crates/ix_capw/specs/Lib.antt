@@ -1,2 +1,3 @@
 pub mod Frame
 pub mod Whole
+pub mod Growth

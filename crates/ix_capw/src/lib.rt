@@ -4,4 +4,4 @@
 mod builder;
 mod numbers;
 
-pub use builder::{At, BuildFault, Builder};
+pub use builder::{At, BuildFault, Builder, ListAt};

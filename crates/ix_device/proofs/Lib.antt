@@ -1,3 +1,4 @@
+pub mod Admitting
 pub mod Differing
 pub mod FilledTables
 pub mod FirstMaps

@@ -126,9 +126,11 @@ put_of_entry types old new map e pins owner u differ found at_owner step k t at 
   where
     value : SiteType → Listing
     value s = listing map.mapping map.pin_map (map.differ && list_all (λ p. has_pin s bel p.bel_pin) pins)
+
     tests : (l c : Bool) → (l && c) ≡ ((l || false) && c)
     tests true c = refl
     tests false c = refl
+
     by : (b : Bool) → nat_eq owner k ≡ b → or_later (value_at old (key k bel cell)) (nat_eq owner k && (list_any (nat_eq bel) e.bels && nat_eq map.cell cell)) (value u) ≡ or_later (value_at old (key k bel cell)) ((entry_lists t bel e || false) && nat_eq map.cell cell) (value t)
     by true h =
         ap (λ b. or_later (value_at old (key k bel cell)) (b && (list_any (nat_eq bel) e.bels && nat_eq map.cell cell)) (value u)) h
@@ -210,6 +212,7 @@ new_mapping types now new ms i m at fresh before step k t at_k bel cell =
     kept : (o f : Option Listing) → or_found o false f ≡ o
     kept None f = refl
     kept (Some v) f = refl
+
     by : (b c : Bool) → nat_eq m.cell cell ≡ b → is_new (map (λ x. x.cell) (take i ms)) cell ≡ c
         → or_found (listed_from t bel cell 0 (take i ms)) b (listed_in t bel i 0 m.common_pins) ≡ (if c then (if b then listed_in t bel i 0 m.common_pins else None) else listed_from t bel cell 0 (take i ms))
     by true true e n = ap (λ o. or_found o true (listed_in t bel i 0 m.common_pins)) (none_listed t bel cell 0 (take i ms) n)

@@ -10,7 +10,7 @@ use Rattle.std.proofs.lemmas.Option.{slice_get_within, none-some, same_Some, sli
 use Rattle.std.specs.List.{AllByRecursion, position}
 use Rattle.ix_rec.specs.declared.device.DeviceRec.{DeviceRec}
 use Rattle.ix_rec.specs.declared.device.Tile.{Tile}
-use Rattle.ix_device_rules.specs.Ranges.{SitesFit}
+use Rattle.ix_rec.specs.Ranges.{SitesFit}
 use Rattle.ix_device.specs.Lookups.{sites_from, sites_of, site_named, name_of_site, tile_of_site, type_of_site, type_of_tile}
 use Rattle.ix_device.proofs.FirstPlaces.{position-cons}
 use Rattle.ix_device.proofs.Walks.{map_take_next, take_next, length_take}
@@ -120,6 +120,7 @@ tells rec entries site e are at = by (slice_get (sites_of rec) site) refl (site_
             → (s.1.name ≡ e.name) × (s.0 ≡ e.tile) × (option_map (λ u. u.primary_type) q ≡ Some e.ty)
         in_type None t = absurd (none-some (e.name, e.tile, e.ty) t)
         in_type (Some u) t = let same = same_Some (s.1.name, s.0, u.primary_type) (e.name, e.tile, e.ty) t in (ap (λ x. x.0) same, ap (λ x. x.1) same, ap (λ x. Some x.2) same)
+
     by : (o : Option (ℕ × Site)) → slice_get (sites_of rec) site ≡ o → option_and_then (told_of rec) o ≡ entry_told e → Tells rec site e
     by None h told = absurd (none-some (e.name, e.tile, e.ty) told)
     by (Some s) h told = let f = found s (type_of_tile rec s.0) refl told in record {

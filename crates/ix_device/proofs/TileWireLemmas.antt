@@ -60,11 +60,14 @@ one_more_type types i ty now new at before step q =
     kept : (o f : Option ℕ) → or_found o false f ≡ o
     kept None f = refl
     kept (Some v) f = refl
+
     none : (a : Bool) → or_found None (a && false) (wire_of_type q.name ty) ≡ None
     none true = refl
     none false = refl
+
     apart : (u : TileType) → slice_get (take i types) q.owner ≡ Some u → nat_eq i q.owner ≡ true → ⊥
     apart u h e = let within : q.owner < length (take i types) = slice_get_within (take i types) q.owner u h in let len = length_take types i ty at in let same = eqb-true i q.owner e in omega arith
+
     by : (p : Bool) (o : Option TileType) (a : Bool) → slice_get (take i types) q.owner ≡ o → nat_eq i q.owner ≡ a
         → or_found (if p then option_and_then (wire_of_type q.name) o else None) (a && p) (wire_of_type q.name ty) ≡ (if p then option_and_then (wire_of_type q.name) (or_found o a (Some ty)) else None)
     by false o a h e = none a

@@ -13,3 +13,5 @@ pub mod Places
 pub mod TypeTables
 pub mod AllTables
 pub mod Valid
+pub mod PinsListed
+pub mod Faults

@@ -32,7 +32,7 @@ entry_lists t bel e = nat_eq e.site_type t.name && list_any (nat_eq bel) e.bels
 abbrev pub PutsMap : List SiteType → (old new : FirstByKey Listing) → PinMap → List SiteTypeBelEntry → List CellBelPinEntry → Type 0
 PutsMap types old new map entries pins =
     (k : ℕ) (t : SiteType) → slice_get types k ≡ Some t → (bel cell : ℕ)
-      → value_at new (key k bel cell) ≡ or_later (value_at old (key k bel cell)) (list_any (entry_lists t bel) entries && nat_eq map.cell cell) (listing map.mapping map.pin_map (map.differ && list_all (λ p. has_pin t bel p.bel_pin) pins))
+    → value_at new (key k bel cell) ≡ or_later (value_at old (key k bel cell)) (list_any (entry_lists t bel) entries && nat_eq map.cell cell) (listing map.mapping map.pin_map (map.differ && list_all (λ p. has_pin t bel p.bel_pin) pins))
 
 -- the first of these pin maps that lists the BEL, the first of them having this place
 abbrev pub listed_in : SiteType → (bel mapping place : ℕ) → List CommonCellBelPinMaps → Option Listing

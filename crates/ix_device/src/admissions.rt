@@ -216,7 +216,15 @@ fn put_mapping(
             pin_map: number_of(i)?,
             differ: pins_differ(alloc, &found.pins)?,
         };
-        put_map(table, &map, &found.pins, &found.site_types, site_types, types, tables)?;
+        put_map(
+            table,
+            &map,
+            &found.pins,
+            &found.site_types,
+            site_types,
+            types,
+            tables,
+        )?;
     }
     Ok(())
 }

@@ -47,7 +47,11 @@ fn lists_constant(ty: &TileType, c: Constant) -> bool
 }
 
 // Of each tile type, whether it lists a wire with this constant.
-fn types_that_list(alloc: Global, types: &Items<TileType>, c: Constant) -> Result<Items<bool>, Memory>
+fn types_that_list(
+    alloc: Global,
+    types: &Items<TileType>,
+    c: Constant,
+) -> Result<Items<bool>, Memory>
     ensures { IfOk result (λ lists. lists ≡ map (lists_constant c) types.now) }
 {
     let mut lists = Items::with_capacity(alloc, types.len())?;

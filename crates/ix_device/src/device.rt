@@ -4,10 +4,14 @@ ghost use Rattle.std.specs.Prelude.{◌≡◌, ◌<◌, Some, None, length, slic
 ghost use Rattle.ix_rec.specs.Ranges.{IndexesFit};
 ghost use Rattle.ix_device_rules.specs.Rules.{first_broken};
 ghost use Rattle.ix_device.specs.Lookups.{tile_named, site_type_number, site_named, sites_of, name_of_site, tile_of_site, type_of_site, row_and_column, tile_wire_named, in_type, bel_in, bel_pin_in, site_pin_in, wire_in};
+ghost use Rattle.ix_device.specs.Admission.{pins_in};
+ghost use Rattle.ix_device.specs.PinsListed.{pins_listed};
 ghost use Rattle.ix_device.specs.Elements.{lut_inputs_of, element_of_bel};
 ghost use Rattle.ix_device.specs.Sources.{site_source_in, has_constant};
 ghost use Rattle.ix_device.specs.TypeTables.{AreTypeTables};
 
+use crate::admitted::pins_of;
+use crate::pins::PinList;
 use crate::sites::SiteEntry;
 use crate::tables::Tables;
 use crate::tile_wires::tile_wire;
@@ -49,7 +53,10 @@ impl Device {
         ensures tables { AreTypeTables self.now result.0.now result.1.now }
     {
         let place = t.get() as usize;
-        (self.rec.site_type_list.at(place), self.tables.types.at(place))
+        (
+            self.rec.site_type_list.at(place),
+            self.tables.types.at(place),
+        )
     }
 
     // What the table tells of a site.
@@ -96,7 +103,13 @@ impl Device {
     pub fn tile_wire(&self, tile: NameId, wire: NameId) -> Option<(TileId, u32)>
         ensures { result ≡ tile_wire_named self.now tile wire }
     {
-        tile_wire(&self.rec, &self.tables.tiles, &self.tables.wires, tile, wire)
+        tile_wire(
+            &self.rec,
+            &self.tables.tiles,
+            &self.tables.wires,
+            tile,
+            wire,
+        )
     }
 
     /// How many sites there are. Their numbers are those below it, by tile and by place in the tile.
@@ -155,9 +168,7 @@ impl Device {
     {
         let (ty, tables) = self.parts(t);
         match ty.bels.as_slice().get(bel.get() as usize) {
-            Some(bel) => tables
-                .bel_pins
-                .get(Key::new(0, bel.name.get(), name.get())),
+            Some(bel) => tables.bel_pins.get(Key::new(0, bel.name.get(), name.get())),
             None => None,
         }
     }
@@ -179,6 +190,25 @@ impl Device {
     {
         let (_, tables) = self.parts(t);
         tables.site_pins.get(Key::of_name(name.get()))
+    }
+
+    /// The pins by which a BEL of a site type takes a cell of this type; none exactly where it doesn't admit the type.
+    pub fn pins_of(&self, cell: NameId, t: SiteTypeId, bel: BelId) -> Option<PinList<'_>>
+        requires ty { t < length self.now.site_type_list }
+        requires bel { IfSome (slice_get self.now.site_type_list t) (λ ty. bel < length ty.bels) }
+        ensures { option_map pins_listed result ≡ in_type (pins_in self.now cell bel) self.now t }
+    {
+        let (ty, parts) = self.parts(t);
+        pins_of(&self.rec, &self.tables, cell, t, ty, parts, bel)
+    }
+
+    /// Whether a BEL of a site type admits a cell of this type.
+    pub fn takes(&self, cell: NameId, t: SiteTypeId, bel: BelId) -> bool
+        requires ty { t < length self.now.site_type_list }
+        requires bel { IfSome (slice_get self.now.site_type_list t) (λ ty. bel < length ty.bels) }
+        ensures { result ≡ is_some (in_type (pins_in self.now cell bel) self.now t) }
+    {
+        self.pins_of(cell, t, bel).is_some()
     }
 
     /// How many inputs a LUT type has; none exactly where the cell type isn't one.

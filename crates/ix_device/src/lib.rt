@@ -3,17 +3,23 @@
 
 mod admissions;
 mod admitted;
+mod check;
 mod constants;
-mod luts;
 mod counts;
 mod device;
 mod element_places;
 mod filling;
 mod lut_inputs;
+mod luts;
 mod names;
+mod pins;
 mod site_sources;
 mod sites;
 mod tables;
 mod tile_wires;
 mod types;
 mod usable;
+
+pub use check::DeviceFault;
+pub use device::Device;
+pub use pins::PinList;

@@ -2,7 +2,7 @@
 
 ghost use Rattle.std.specs.Prelude.{◌≡◌, ◌<◌, ◌+◌, ◌++◌, length, map, slice_get, Some, IfOk, OnOk};
 ghost use Rattle.std.specs.List.{AllByRecursion};
-ghost use Rattle.ix_device_rules.specs.Ranges.{IndexesFit};
+ghost use Rattle.ix_rec.specs.Ranges.{IndexesFit};
 ghost use Rattle.ix_device.specs.Tables.{entry_told, told_in, AreSites};
 
 use ix_num::{Memory, NameId, SiteTypeId, TileId};

@@ -16,11 +16,7 @@ use ix_rec::{DeviceRec, Items, TileType};
 use std::alloc::Global;
 
 // Puts the places of a tile type's wires.
-fn put_wires(
-    table: &mut FirstByKey<u32>,
-    owner: u32,
-    wires: &Items<NameId>,
-) -> Result<(), Memory>
+fn put_wires(table: &mut FirstByKey<u32>, owner: u32, wires: &Items<NameId>) -> Result<(), Memory>
     ensures { OnOk result ((q : KeySeen) → value_at table.new q ≡ or_found (value_at table.old q) (of_type owner q) (position (nat_eq q.name) wires.now)) }
 {
     for i in 0..wires.len() {
@@ -31,10 +27,7 @@ fn put_wires(
 }
 
 /// The place of each wire in its tile type, under the tile type's number and the wire's name.
-pub(crate) fn tile_wires(
-    alloc: Global,
-    types: &Items<TileType>,
-) -> Result<FirstByKey<u32>, Memory>
+pub(crate) fn tile_wires(alloc: Global, types: &Items<TileType>) -> Result<FirstByKey<u32>, Memory>
     ensures { IfOk result (λ table. (k : ℕ) (ty : TypeSeen) → slice_get types.now k ≡ Some ty → (name : ℕ) → value_at table (key k 0 name) ≡ wire_of_type name ty) }
 {
     let mut table = FirstByKey::new(alloc);

@@ -1,8 +1,8 @@
 -- The rules of a valid device. Each rule is the list of what it asks of the device's fields, in reading order; a device
 -- breaks the rule where a field doesn't fit, and the first such field is the place. Where two things break a rule
 -- together, it is the later one that doesn't fit. A rule is asked where all before it are kept.
-use Rattle.std.specs.Prelude.{ℕ, ◌+◌, ◌-◌, ◌^◌, List, [], ◌∷◌, ◌++◌, length, map, slice_get, Bool, true, false, not, ◌&&◌, ◌||◌, ◌==◌, nat_lt, nat_le, nat_eq, Option, Some, None, is_some, option_map, unwrap_or, if◌then◌else◌}
-use Rattle.std.specs.List.{flat_map, list_any, list_all, sum_by, find}
+use Rattle.std.specs.Prelude.{ℕ, ◌+◌, ◌-◌, ◌^◌, List, [], ◌∷◌, ◌++◌, length, map, slice_get, Bool, true, false, not, ◌&&◌, nat_lt, nat_le, nat_eq, Option, Some, None, option_map, unwrap_or, if◌then◌else◌}
+use Rattle.std.specs.List.{flat_map, list_any, sum_by, find}
 use Rattle.ix_message.specs.Indexes.{Step, begun, asked, Item, first_unfit}
 use Rattle.ix_rec.specs.declared.device.DeviceRec.{DeviceRec}
 use Rattle.ix_rec.specs.declared.device.BelPin.{BelPin}
@@ -12,7 +12,6 @@ use Rattle.ix_rec.specs.declared.device.SitePip.{SitePip}
 use Rattle.ix_rec.specs.declared.device.SiteWire.{SiteWire}
 use Rattle.ix_rec.specs.declared.device.SiteType.{SiteType}
 use Rattle.ix_rec.specs.declared.device.SiteTypeInTileType.{SiteTypeInTileType}
-use Rattle.ix_rec.specs.declared.device.Pip.{Pip}
 use Rattle.ix_rec.specs.declared.device.PipKind.{PipKind}
 use Rattle.ix_rec.specs.declared.device.PipKind.TheVariants.{Conventional, PseudoCells}
 use Rattle.ix_rec.specs.declared.device.TileType.{TileType}

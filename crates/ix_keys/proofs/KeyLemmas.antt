@@ -7,7 +7,7 @@ use Rattle.ix_keys.specs.declared.key.Key.{Key}
 use Rattle.ix_keys.specs.Keys.{key, key_eq, has_key, with_key, AllDiffer}
 
 -- keys that are told alike are one key
-alike : (a b : Key) → key_eq a b ≡ true → a ≡ b
+pub alike : (a b : Key) → key_eq a b ≡ true → a ≡ b
 alike a b h =
     let owners : a.owner ≡ b.owner = grind (arith, nat_tests) in
     let parts : a.part ≡ b.part = grind (arith, nat_tests) in
@@ -27,13 +27,13 @@ or_true : (b : Bool) → (b || true) ≡ true
 or_true true = refl
 or_true false = refl
 
-has_key-at : (keys : List Key) (i : ℕ) (k : Key) → slice_get keys i ≡ Some k → has_key keys k ≡ true
+pub has_key-at : (keys : List Key) (i : ℕ) (k : Key) → slice_get keys i ≡ Some k → has_key keys k ≡ true
 has_key-at [] i k h = absurd (none-some k h)
 has_key-at (x ∷ xs) zero k h = ap (λ b. b || has_key xs k) (subst (λ y. key_eq k y ≡ true) (sym (same_Some x k h)) (like_itself k))
 has_key-at (x ∷ xs) (suc i) k h = ap (λ b. key_eq k x || b) (has_key-at xs i k h) ∙ or_true (key_eq k x)
 
 -- what stands at a place of a list with one more item: what stood there, or that item at the end
-slice_get-push : {A : Type 0} (xs : List A) (y : A) (i : ℕ) (t : A) → slice_get (xs ++ y ∷ []) i ≡ Some t → (slice_get xs i ≡ Some t) ⊎ ((i ≡ length xs) × (y ≡ t))
+pub slice_get-push : {A : Type 0} (xs : List A) (y : A) (i : ℕ) (t : A) → slice_get (xs ++ y ∷ []) i ≡ Some t → (slice_get xs i ≡ Some t) ⊎ ((i ≡ length xs) × (y ≡ t))
 slice_get-push [] y zero t h = inr (refl, same_Some y t h)
 slice_get-push [] y (suc i) t h = absurd (none-some t h)
 slice_get-push (x ∷ xs) y zero t h = inl h

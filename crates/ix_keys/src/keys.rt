@@ -57,6 +57,7 @@ impl Keys {
         ensures place { result ≡ position (key_eq key) self.now }
         ensures within { IfSome result (λ place. place < length self.now) }
         ensures key { IfSome result (λ place. slice_get self.now place ≡ Some key) }
+        ensures differ { AllDiffer self.now }
     {
         match self.keys.get_index_of(&key) {
             Some(place) => Some(place as u32),

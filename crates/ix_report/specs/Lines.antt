@@ -85,12 +85,22 @@ counts_text cells clusters nets pips =
 abbrev pub effort_text : (trial rounds : ℕ) → List ℕ
 effort_text trial rounds = codes ", trial " ++ decimal trial ++ codes ", rounds " ++ decimal rounds
 
+abbrev pub needs_text : (cells bels : ℕ) → List ℕ
+needs_text cells bels = codes " needs " ++ decimal cells ++ codes " of " ++ decimal bels
+
+-- how many BELs are missing
+abbrev pub few_bels_text : (kind : List ℕ) (cells bels : ℕ) → List ℕ
+few_bels_text kind cells bels = codes "too few bels: " ++ kind ++ needs_text cells bels
+
 -- the line of a report, without its end
 abbrev pub text_of : reports.Report → List ℕ
 text_of (the_report.Implemented cells clusters nets pips trial rounds) = counts_text cells clusters nets pips ++ effort_text trial rounds
 text_of the_report.Usage = codes "bad words"
 text_of (the_report.Bad file rule place) = file_word file ++ codes ": " ++ rule_name rule ++ codes " at " ++ place_text place
 text_of (the_report.NotBuilt file) = codes "not built yet: " ++ file_word file
+text_of the_report.TooLong = codes "output too long"
+text_of (the_report.TooFewBels kind cells bels) = few_bels_text kind cells bels
+text_of (the_report.NoSite cell) = codes "no site: " ++ cell
 text_of (the_report.ReadFault file) = codes "read fault: " ++ file
 text_of (the_report.WriteFault file) = codes "write fault: " ++ file
 text_of the_report.OutOfMemory = codes "out of memory"

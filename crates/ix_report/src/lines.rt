@@ -1,7 +1,7 @@
 //! The line of a report.
 
 ghost use Rattle.std.specs.Prelude.{◌≡◌, ◌++◌, IfOk, OnOk, string_bytes, codes};
-ghost use Rattle.ix_report.specs.Lines.{counts_text, effort_text, file_word, rule_name, place_text, text_of, line_of};
+ghost use Rattle.ix_report.specs.Lines.{counts_text, effort_text, few_bels_text, needs_text, file_word, rule_name, place_text, text_of, line_of};
 
 use crate::report::Report;
 use crate::words::{rule_word, word_of_file};
@@ -97,6 +97,20 @@ fn push_effort(text: &mut String, trial: u32, rounds: u32) -> Result<(), AllocEr
     write!(text, ", trial {trial}, rounds {rounds}")
 }
 
+fn push_needs(text: &mut String, cells: u64, bels: u64) -> Result<(), AllocError>
+    ensures { OnOk result (string_bytes text.new ≡ string_bytes text.old ++ needs_text cells bels) }
+{
+    write!(text, " needs {cells} of {bels}")
+}
+
+fn push_few_bels(text: &mut String, kind: &str, cells: u64, bels: u64) -> Result<(), AllocError>
+    ensures { OnOk result (string_bytes text.new ≡ string_bytes text.old ++ few_bels_text kind.now cells bels) }
+{
+    push_two(text, "too few bels: ", kind)?;
+    push_needs(text, cells, bels)?;
+    Ok(())
+}
+
 fn push_report(text: &mut String, report: &Report) -> Result<(), AllocError>
     ensures { OnOk result (string_bytes text.new ≡ string_bytes text.old ++ text_of report.now) }
 {
@@ -115,6 +129,11 @@ fn push_report(text: &mut String, report: &Report) -> Result<(), AllocError>
         Report::Usage => text.push_str("bad words"),
         Report::Bad { file, rule, place } => push_bad(text, *file, *rule, place),
         Report::NotBuilt(file) => push_two(text, "not built yet: ", word_of_file(*file)),
+        Report::TooLong => text.push_str("output too long"),
+        Report::TooFewBels { kind, cells, bels } => {
+            push_few_bels(text, kind.as_str(), *cells, *bels)
+        }
+        Report::NoSite { cell } => push_two(text, "no site: ", cell.as_str()),
         Report::ReadFault { file } => push_two(text, "read fault: ", file.as_str()),
         Report::WriteFault { file } => push_two(text, "write fault: ", file.as_str()),
         Report::OutOfMemory => text.push_str("out of memory"),

@@ -33,6 +33,22 @@ pub enum Report {
     },
     /// A file that is valid so far has parts that the program can't handle yet.
     NotBuilt(File),
+    /// The netlist would have 2^27 words or more.
+    TooLong,
+    /// More cells of a type than BELs that admit it.
+    TooFewBels {
+        /// The cell type.
+        kind: Word,
+        /// How many cells of the type the design has.
+        cells: u64,
+        /// How many BELs of the device's sites admit it.
+        bels: u64,
+    },
+    /// A cell finds no place.
+    NoSite {
+        /// The cell.
+        cell: Word,
+    },
     /// A file can't be read.
     ReadFault {
         /// The file's name.

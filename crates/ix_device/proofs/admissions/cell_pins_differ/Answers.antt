@@ -9,7 +9,7 @@ pub returns-then-not-branch : goal.returns-then-not-branch
 returns-then-not-branch c =
     let x = c.at.result.now in
     let here : is_new (map (λ p. p.cell_pin) (take c.loop-i.i c.args.pins.now)) x.cell_pin ≡ c.in_ok-put.field-0 =
-        sym (c.loop-i.invariant.0 x.cell_pin) ∙ ap (λ k. is_none (value_at c.loop-i.names k)) (sym (c.of_name.ensures ∙ ap name_key c.get.ensures)) ∙ sym c.in_ok-put.ensures.new in
+    sym (c.loop-i.invariant.0 x.cell_pin) ∙ ap (λ k. is_none (value_at c.loop-i.names k)) (sym (c.of_name.ensures ∙ ap name_key c.get.ensures)) ∙ sym c.in_ok-put.ensures.new in
     sym (differ_fails (λ p. p.cell_pin) c.args.pins.now c.loop-i.i x c.at.ensures (here ∙ c.if-not-branch.true))
 
 pub loop-i-preserved : goal.loop-i-preserved
@@ -17,8 +17,7 @@ loop-i-preserved c =
     let x = c.at.result.now in
     let named = c.of_name.ensures ∙ ap name_key c.get.ensures in
     let here : is_new (map (λ p. p.cell_pin) (take c.loop-i.i c.args.pins.now)) x.cell_pin ≡ c.in_ok-put.field-0 =
-        sym (c.loop-i.invariant.0 x.cell_pin) ∙ ap (λ k. is_none (value_at c.loop-i.names k)) (sym named) ∙ sym c.in_ok-put.ensures.new in
-    (
+    sym (c.loop-i.invariant.0 x.cell_pin) ∙ ap (λ k. is_none (value_at c.loop-i.names k)) (sym named) ∙ sym c.in_ok-put.ensures.new in (
       put_new (λ p. p.cell_pin) c.args.pins.now c.loop-i.i x (λ q. value_at c.loop-i.names (name_key q)) (λ q. value_at c.put.new.self (name_key q)) c.at.ensures c.loop-i.invariant.0
           (λ q. c.in_ok-put.ensures.values (name_key q) ∙ ap (λ k. or_later (value_at c.loop-i.names (name_key q)) (key_eq k (name_key q)) tt) named),
       differ_next (λ p. p.cell_pin) c.args.pins.now c.loop-i.i x c.at.ensures (here ∙ c.if-not-branch.false) c.loop-i.invariant.1,

@@ -9,4 +9,4 @@ use Rattle.ix_device.proofs.admissions.put_bels.Given as goal
 abbrev pub invariant-loop-i : goal.invariant-loop-i
 invariant-loop-i l =
     (q : Key) → value_at l.table q
-      ≡ or_later (value_at l.initial.table q) (names_one l.owner l.map.cell (take l.i l.bels) q) (listing l.map.mapping l.map.pin_map (l.map.differ && list_all (λ p. has_pin l.t q.part p.bel_pin) l.pins))
+    ≡ or_later (value_at l.initial.table q) (names_one l.owner l.map.cell (take l.i l.bels) q) (listing l.map.mapping l.map.pin_map (l.map.differ && list_all (λ p. has_pin l.t q.part p.bel_pin) l.pins))

@@ -19,7 +19,7 @@ loop-i-preserved c cell =
     let x = c.at-cell.result.now in
     let cells = c.args.rec.now.lut_definitions.lut_cells in
     elim c.if-branch.branch [
-      then-branch+in_ok-inputs+in_ok-put w ↦
+      | then-branch+in_ok-inputs+in_ok-put w ↦
           ap (λ t. value_at t (name_key cell)) w.table-is ∙ w.in_ok-put.ensures.values (name_key cell)
           ∙ ap (λ k. or_later (value_at c.loop-i.table (name_key cell)) (key_eq k (name_key cell)) w.in_ok-inputs.inputs) (w.of_name.ensures ∙ ap name_key w.get.ensures)
           ∙ ap (or_later (value_at c.loop-i.table (name_key cell)) (nat_eq x.cell cell)) (w.in_ok-inputs.ensures ∙ w.len.ensures)

@@ -1,6 +1,6 @@
 use Rattle.std.proofs.Common.{◌≡◌, ◌<◌, ◌+◌, ◌++◌, length, map, take, slice_get, Some, IfOk, OnOk, ℕ, ◌-◌, ◌*◌, ◌≤◌}
 use Rattle.std.specs.List.{AllByRecursion}
-use Rattle.ix_device_rules.specs.Ranges.{IndexesFit}
+use Rattle.ix_rec.specs.Ranges.{IndexesFit}
 use Rattle.ix_device.specs.Tables.{entry_told, told_in, AreSites}
 use Rattle.ix_device.proofs.sites.add_sites.Given as goal
 

@@ -4,4 +4,4 @@ pub returns-in-NotBuilt : goal.returns-in-NotBuilt
 returns-in-NotBuilt c = rw (c.in-NotBuilt.is, ← c.word_of_file.ensures) c.push_two.ensures
 
 pub returns-in-ReadFault : goal.returns-in-ReadFault
-returns-in-ReadFault c = rw (c.in-ReadFault.is, ← c.as_str.ensures) c.push_two-in-ReadFault.ensures
+returns-in-ReadFault c = rw (c.in-ReadFault.is, ← c.as_str-in-ReadFault.ensures) c.push_two-in-ReadFault.ensures

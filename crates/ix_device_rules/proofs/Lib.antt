@@ -1,0 +1,13 @@
+pub mod Steps
+pub mod TableLemmas
+pub mod LoopFacts
+pub mod NameLemmas
+pub mod WireLemmas
+pub mod SizeLemmas
+pub mod PartLemmas
+pub mod TileWireLemmas
+pub mod LutLemmas
+pub mod EntryLemmas
+pub mod Counts
+pub mod Unfit
+pub mod KnownSteps

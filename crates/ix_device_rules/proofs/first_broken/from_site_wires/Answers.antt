@@ -1,0 +1,12 @@
+use Rattle.std.proofs.Common.{drop}
+use Rattle.ix_rec.specs.declared.place.Rule.TheVariants as V
+use Rattle.ix_device_rules.specs.Rules
+use Rattle.ix_device_rules.proofs.KnownSteps.{known_pins}
+use Rattle.ix_device_rules.proofs.Unfit.{kept, told}
+use Rattle.ix_device_rules.proofs.first_broken.from_site_wires.Goals as goal
+
+pub returns-in-Ok : goal.returns-in-Ok
+returns-in-Ok c = kept V.M3 (Rules.pins_are_on_one_wire c.args.rec.now) (known_pins c.args.rec.now) (Rules.first_of_rules (drop 3 (Rules.rules c.args.rec.now))) c.new-walk.result c.new-walk.ensures c.pins_are_on_one_wire.new.walk c.in-Ok.field-0 c.in-Ok.ensures c.from_bels.result c.from_bels.ensures
+
+pub returns-in-Err : goal.returns-in-Err
+returns-in-Err c = told V.M3 (Rules.pins_are_on_one_wire c.args.rec.now) (known_pins c.args.rec.now) (Rules.first_of_rules (drop 3 (Rules.rules c.args.rec.now))) c.new-walk.result c.new-walk.ensures c.pins_are_on_one_wire.new.walk c.in-Err.stop c.broken.result c.in-Err.ensures c.broken.ensures

@@ -1,0 +1,20 @@
+use Rattle.std.proofs.Common.{arith}
+use Rattle.ix_device_rules.specs.Rules
+use Rattle.ix_device_rules.proofs.Steps.{flat_none, flat_more, flat_stops, flat_done}
+use Rattle.ix_device_rules.proofs.pins_have_bels.pins_have_bels.Goals as goal
+
+pub loop-i-init : goal.loop-i-init
+loop-i-init c = flat_none (Rules.bels_of_pins) (c.args.rec.now.site_type_list) c.args.walk.now
+
+pub loop-i-preserved : goal.loop-i-preserved
+loop-i-preserved c =
+    flat_more (Rules.bels_of_pins) (c.args.rec.now.site_type_list) c.loop-i.i c.at.result.now c.at.ensures c.loop-i.invariant (c.in-Ok-site_type_fits.ensures)
+
+pub returns-in-Err : goal.returns-in-Err
+unfolding Rules.pins_have_bels
+returns-in-Err c =
+    flat_stops (Rules.bels_of_pins) (c.args.rec.now.site_type_list) _ c.loop-i.i c.at.result.now c.at.ensures c.loop-i.invariant (c.in-Err.ensures)
+
+pub returns : goal.returns
+unfolding Rules.pins_have_bels
+returns c = flat_done (Rules.bels_of_pins) (c.args.rec.now.site_type_list) c.loop-i.i (omega arith) c.loop-i.invariant

@@ -1,0 +1,4 @@
+pub mod Row
+pub mod Levels
+pub mod Counted
+pub mod Filled

@@ -4,6 +4,7 @@ pub mod Bare
 pub mod Bound
 pub mod ByTable
 pub mod Each
+pub mod Fitting
 pub mod Flags
 pub mod Longest
 pub mod Naming

@@ -3,6 +3,7 @@
 ghost use Rattle.std.specs.Prelude.{◌≡◌, map, length, IfOk};
 ghost use Rattle.ix_message.specs.Device.{device};
 ghost use Rattle.ix_device_raw.specs.Raw.{device_numbers, tile_type_numbers};
+ghost use Rattle.ix_rec.specs.Ranges.{IndexesFit};
 ghost use Rattle.ix_device_read.specs.Finish.{finish_at};
 ghost use Rattle.ix_device_read.specs.Named.{limit, limit_of, DeviceNamed};
 ghost use Rattle.ix_device_read.specs.Numbers.{name_text};
@@ -112,6 +113,7 @@ pub fn finish_device(
 ) -> Result<DeviceRec, Stop>
     ensures made { Meets (device_record names.now) result (device_finished (map (name_text names.now) strings.now) names.now (device_numbers raw.entry)) }
     ensures named { IfOk result (DeviceNamed (limit strings.now names.now)) }
+    ensures fits { IfOk result IndexesFit }
 {
     let tile_types = site_type_counts(alloc, &raw.tile_type_list)?;
     let ctx = device_context(alloc, names, strings, &raw, tile_types.as_slice());

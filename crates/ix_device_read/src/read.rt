@@ -5,6 +5,7 @@ ghost use Rattle.ix_frame.specs.Views.{segments_of};
 ghost use Rattle.ix_message.specs.Device.{device};
 ghost use Rattle.ix_message.specs.Names.{Datum};
 ghost use Rattle.ix_strings.specs.Names.{KeepsNumbers};
+ghost use Rattle.ix_rec.specs.Ranges.{IndexesFit};
 ghost use Rattle.ix_device_raw.specs.Raw.{device_numbers};
 ghost use Rattle.ix_device_read.specs.Long.{ListsWithin};
 ghost use Rattle.ix_device_read.specs.Loose.{loose_texts, Adds, AreNumbersOf, HasRoom};
@@ -52,6 +53,7 @@ fn finish_named(
     requires few { structs_in device (device_numbers raw) < 2 ^ 32 - 1 }
     ensures reading { IsReading (device_record names.now) result (record_unless_bad (map (name_text names.now) strings.now) device (device_numbers raw.entry)) }
     ensures named { IfOk result (DeviceNamed (limit strings.now names.now)) }
+    ensures fits { IfOk result IndexesFit }
 {
     match finish_device(alloc, names, strings, raw) {
         Ok(device) => Ok(device),
@@ -75,6 +77,7 @@ pub fn read_device(
     ensures reading { IsReading (device_record names.new) result (reading_in_segments device (segments_of frame.now)) }
     ensures named { IfOk result (DeviceNamed (length names.new)) }
     ensures lists { IfOk result (λ rec. ListsWithin (2 ^ 28 + 64) Datum device (device_record names.new rec)) }
+    ensures fits { IfOk result IndexesFit }
     ensures keeps { KeepsNumbers names.old names.new }
     ensures most { length names.new ≤ length names.old + 2 ^ 28 + 66 }
 {

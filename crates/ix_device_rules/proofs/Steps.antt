@@ -1,5 +1,5 @@
 -- Walks over lists of steps, one after the other.
-use Rattle.std.proofs.Common.{◌≡◌, ℕ, ◌+◌, ◌≤◌, Bool, true, false, List, [], ◌∷◌, ◌++◌, length, take, drop, slice_get, Some, Result, Ok, Err, refl, sym, ap, subst, ◌∙◌, append_assoc}
+use Rattle.std.proofs.Common.{◌≡◌, ℕ, ◌+◌, ◌<◌, ◌≤◌, zero, suc, arith, Bool, true, false, List, [], ◌∷◌, ◌++◌, length, take, drop, slice_get, Some, Result, Ok, Err, refl, sym, ap, subst, ◌∙◌, append_assoc}
 use Prim.Native.String.{String}
 use Rattle.std.proofs.lemmas.List.{append-nil, take-append-drop, take_more, take_all}
 use Rattle.std.proofs.lemmas.Grind.{flat_map-append}
@@ -74,6 +74,12 @@ entered_fits x kind field rest false a b h = let e = h.tells in absurd (cc)
 -- the steps, told in another way
 pub walks_as : {X : Type 0} {xs ys : List Step} {a b : List ℕ} {r : Result X Stop} → xs ≡ ys → Walks xs a r b → Walks ys a r b
 walks_as {a = a} {b = b} {r = r} same h = subst (λ l. Walks l a r b) same h
+
+-- an item stands at each place of a list
+pub there_is : {A : Type 0} (xs : List A) (i : ℕ) → i < length xs → (x : A) × (slice_get xs i ≡ Some x)
+there_is [] i lt = absurd (omega arith)
+there_is (x ∷ xs) zero lt = (x, refl)
+there_is (x ∷ xs) (suc i) lt = there_is xs i (omega arith)
 
 -- The items of a list up to one, and it, and the rest.
 

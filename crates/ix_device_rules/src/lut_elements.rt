@@ -207,8 +207,7 @@ pub fn elements_stand(
 fn pass_bels(element: &LutElement, walk: &mut Walk) -> Result<(), Stop>
     ensures { Walks (flat_map passed_bel element.now.bels) walk.old result walk.new }
 {
-    for i in 0..element.bels.len() {
-        let _bel = element.bels.at(i);
+    for _ in 0..element.bels.len() {
         match walk.begin(Kind::LutBel) {
             Ok(()) => {}
             Err(stop) => return Err(stop),

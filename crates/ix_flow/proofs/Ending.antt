@@ -5,31 +5,16 @@ use Rattle.ix_shelf.specs.Sink.{with_bytes, PutsPrefix}
 use Rattle.ix_report.specs.Lines.{line_of}
 use Rattle.ix_report.specs.declared.report.Report.{Report}
 use Rattle.ix_report.specs.declared.report.Report.TheVariants as told
-use Rattle.ix_frame.specs.Segments.{segments, cut, cut_out, numbers_of_four}
-use Rattle.ix_frame.specs.Target.{target, struct_target, placed}
-use Rattle.ix_frame.specs.Objects.{root_of, struct_behind, struct_found, text_at, text_behind, text_found, list_at, list_behind, list_found, elements_at, elements_behind, elements_found}
-use Rattle.ix_capw.specs.Frame.{root_segment, frame_bytes}
-use Rattle.ix_message.specs.Reading.{row_at, each_from, texts_from, texts_at, value_at, root_at}
-use Rattle.ix_message.specs.Names.{record_of, numbered, uses, first_uses, place_in}
-use Rattle.ix_message.specs.Indexes.{steps, first_unfit}
-use Rattle.ix_message.specs.Layout.{pointer_section, texts_laid, structs_laid, section_of}
-use Rattle.ix_message.specs.Message.{numbers_in_segments, reading, segment_for, encoding}
-use Rattle.ix_message.specs.Phys.{phys_netlist}
 use Rattle.ix_flow.specs.declared.answer.Answer.{Answer}
 use Rattle.ix_flow.specs.declared.answer.Answer.TheVariants.{Written}
 use Rattle.ix_flow.specs.declared.job.Job.{Job}
 use Rattle.ix_flow.specs.declared.status.Status.{Status}
 use Rattle.ix_flow.specs.declared.status.Status.TheVariants as stat
 use Rattle.ix_flow.specs.Words.{Flow}
-use Rattle.ix_flow.specs.Answer.{empty_netlist, empty_netlist_file, nothing_implemented}
+use Rattle.ix_flow.specs.Answer.{implemented}
 use Rattle.ix_flow.specs.Status.{status_of}
 use Rattle.ix_flow.specs.Run.{Outside, KeepsCounts, Prints, IsStatusOf, Answers, IsImplemented, Tells, IsFlowRun}
 use Rattle.ix_flow.specs.Steps.{IsReady, IsReadyFor, TellsRefusal, IsCaused}
-
--- the netlist that is written reads as itself
-empty_decodes : reading phys_netlist empty_netlist_file ≡ Ok empty_netlist
-unfolding numbers_of_four cut cut_out segments target placed struct_target struct_found struct_behind text_found text_behind list_found list_behind elements_found elements_behind text_at list_at elements_at root_of row_at each_from texts_from texts_at value_at root_at record_of steps first_unfit numbers_in_segments reading numbered uses first_uses place_in pointer_section texts_laid structs_laid section_of segment_for encoding
-empty_decodes = refl
 
 -- A run that refuses, with no file touched.
 pub refusal_run : (flow : Flow) (before after : Outside) (report : Report) (status : Status) → status ≡ status_of report → Prints (line_of report) before after
@@ -53,6 +38,15 @@ refusal_run flow before after (told.NotBuilt file) status e p same write counts 
   tells = says;
   counts = counts;
 }
+refusal_run flow before after told.TooLong status e p same write counts cause says = record {
+  report = told.TooLong;
+  is_status = subst (IsStatusOf told.TooLong before after) (sym e) (refl, p);
+  taken = λ h. cc;
+  cause = tt;
+  kept = (same, write);
+  tells = says;
+  counts = counts;
+}
 refusal_run flow before after (told.ReadFault file) status e p same write counts cause says = record {
   report = told.ReadFault file;
   is_status = subst (IsStatusOf (told.ReadFault file) before after) (sym e) (refl, p);
@@ -62,6 +56,8 @@ refusal_run flow before after (told.ReadFault file) status e p same write counts
   tells = says;
   counts = counts;
 }
+refusal_run flow before after (told.TooFewBels kind cells bels) status e p same write counts cause says = absurd cause
+refusal_run flow before after (told.NoSite cell) status e p same write counts cause says = absurd cause
 refusal_run flow before after told.Usage status e p same write counts cause says = absurd cause
 refusal_run flow before after (told.Implemented cells clusters nets pips trial rounds) status e p same write counts cause says = absurd cause
 refusal_run flow before after (told.WriteFault file) status e p same write counts cause says = absurd cause
@@ -81,18 +77,16 @@ memory_run flow before after p same write counts = record {
 }
 
 -- the answer for which a job is ready, in full
-ready_answers : (flow : Flow) (files : Files) (a : Answer) (job : Job) → IsReady flow a job → Answers files flow a → Answers files flow (Written empty_netlist_file nothing_implemented)
-ready_answers flow files a job r h =
-    subst (Answers files flow) (r.answered ∙ ap (λ (b : List ℕ). Written b job.done.report) r.bytes ∙ ap (Written empty_netlist_file) r.report) h
+ready_answers : (flow : Flow) (files : Files) (a : Answer) (job : Job) (r : IsReady flow a job) → Answers files flow a → Answers files flow (Written job.bytes (implemented r.cells r.sites))
+ready_answers flow files a job r h = subst (Answers files flow) (r.answered ∙ ap (Written job.bytes) r.report) h
 
 -- the netlist was written
-implemented : (flow : Flow) (before after : Outside) (job : Job) → IsReadyFor flow before.files job → after.files ≡ option_map (with_file flow.routed job.bytes) before.files
-    → (f : Files) → before.files ≡ Some f → Tells nothing_implemented flow f after.files
-implemented flow before after job r written f h = record {
-  bytes = empty_netlist_file;
+told_implemented : (flow : Flow) (before after : Outside) (job : Job) (r : IsReadyFor flow before.files job) → after.files ≡ option_map (with_file flow.routed job.bytes) before.files
+    → (f : Files) → before.files ≡ Some f → Tells (implemented r.1.cells r.1.sites) flow f after.files
+told_implemented flow before after job r written f h = record {
+  bytes = job.bytes;
   answers = ready_answers flow f r.0 job r.1 (r.2 f h);
-  decodes = empty_decodes;
-  written = written ∙ ap (option_map (with_file flow.routed job.bytes)) h ∙ ap (λ (b : List ℕ). Some (with_file flow.routed b f)) r.1.bytes;
+  written = written ∙ ap (option_map (with_file flow.routed job.bytes)) h;
 }
 
 -- A run that does its job and tells of it.
@@ -100,12 +94,12 @@ pub done_run : (flow : Flow) (before after : Outside) (job : Job) (status : Stat
     → after.told ≡ with_bytes (line_of job.done.report) before.told → after.files ≡ option_map (with_file flow.routed job.bytes) before.files → KeepsCounts before after
     → IsFlowRun flow before after status
 done_run flow before after job status r e p written counts = record {
-  report = nothing_implemented;
-  is_status = subst (IsStatusOf nothing_implemented before after) (sym (e ∙ ap status_of r.1.report)) (refl, p ∙ ap (λ (x : Report). with_bytes (line_of x) before.told) r.1.report);
+  report = implemented r.1.cells r.1.sites;
+  is_status = subst (IsStatusOf (implemented r.1.cells r.1.sites) before after) (sym (e ∙ ap status_of r.1.report)) (refl, p ∙ ap (λ (x : Report). with_bytes (line_of x) before.told) r.1.report);
   taken = λ h. cc;
   cause = tt;
   kept = tt;
-  tells = implemented flow before after job r written;
+  tells = told_implemented flow before after job r written;
   counts = counts;
 }
 
@@ -114,12 +108,12 @@ pub untold_run : (flow : Flow) (before after : Outside) (job : Job) → IsReadyF
     → Rose before.put_faults after.put_faults → PutsPrefix (line_of job.done.report) before.told after.told
     → after.files ≡ option_map (with_file flow.routed job.bytes) before.files → KeepsCounts before after → IsFlowRun flow before after stat.PutFault
 untold_run flow before after job r rose p written counts = record {
-  report = nothing_implemented;
+  report = implemented r.1.cells r.1.sites;
   is_status = (refl, rose, subst (λ (x : Report). PutsPrefix (line_of x) before.told after.told) r.1.report p);
   taken = λ h. cc;
   cause = tt;
   kept = tt;
-  tells = implemented flow before after job r written;
+  tells = told_implemented flow before after job r written;
   counts = counts;
 }
 
@@ -136,8 +130,3 @@ unwritten_run flow before after job status r e p left rose counts = record {
   tells = λ f h. (refl, job.bytes, job.done.report, subst (Answers f flow) r.1.answered (r.2 f h), subst (λ (o : Option Files). LeavesPrefix flow.routed job.bytes o after.files) h left);
   counts = counts;
 }
-
--- what the builder makes is the file of that netlist
-pub empty_built : frame_bytes (root_segment 0 6) ≡ empty_netlist_file
-unfolding numbered uses first_uses place_in pointer_section texts_laid structs_laid section_of segment_for encoding
-empty_built = refl

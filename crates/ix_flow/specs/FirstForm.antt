@@ -1,15 +1,10 @@
--- The files that the program can handle so far: a device whose root pointer is zero, and a design whose top has no
--- instances and that uses no ports, nets or properties. Slots are those of the message schemas.
-use Rattle.std.specs.Prelude.{ℕ, zero, suc, Bool, true, false, not, ◌&&◌, ◌||◌, ◌==◌, nat_lt, length, List, [], ◌∷◌, Result, Ok, Err, is_ok, if◌then◌else◌}
+-- The designs that the program can handle so far: the top has no instances, and no ports, nets or properties are used. Slots are those of the message schemas.
+use Rattle.std.specs.Prelude.{ℕ, zero, suc, Bool, true, false, not, ◌&&◌, ◌||◌, ◌==◌, nat_lt, length, List, [], ◌∷◌, Result, Ok, Err, if◌then◌else◌}
 use Rattle.ix_num.specs.declared.fault.FrameFault.{FrameFault}
 use Rattle.ix_frame.specs.Result.{◌>>=◌}
 use Rattle.ix_frame.specs.Segments.{Segments}
 use Rattle.ix_frame.specs.Target.{Object, Elements}
-use Rattle.ix_frame.specs.Objects.{u32_in, has_pointer, has_root, root_of, whole_budget, struct_at, elements_at, list_at, text_at, text_in, element_of, numbers_in}
-
--- the root pointer is there and zero, so that all of the message is its default
-unfoldable pub is_zero_root : Segments → Bool
-is_zero_root all = is_ok (root_of all (whole_budget all)) && not (has_root all)
+use Rattle.ix_frame.specs.Objects.{u32_in, has_pointer, root_of, whole_budget, struct_at, elements_at, list_at, text_at, text_in, element_of, numbers_in}
 
 -- the first n texts of a list are read: what is left of the budget
 unfoldable pub texts_read : ℕ → Elements → ℕ → Result ℕ FrameFault

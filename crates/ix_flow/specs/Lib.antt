@@ -6,3 +6,4 @@ pub mod Answer
 pub mod Status
 pub mod Run
 pub mod Steps
+pub mod Judged

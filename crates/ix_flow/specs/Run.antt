@@ -1,18 +1,16 @@
 -- What a run of the program does to the outside, and what its status says.
-use Rattle.std.specs.Prelude.{◌≡◌, ◌≢◌, ◌≤◌, ◌⊎◌, ℕ, List, [], Option, Some, None, IsSome, Ok}
+use Rattle.std.specs.Prelude.{◌≡◌, ◌≢◌, ◌≤◌, ◌⊎◌, ℕ, List, [], Option, Some, None, IsSome}
 use Rattle.ix_shelf.specs.Shelf.{Files, with_file, Rose, IsAbsent, LeavesPrefix}
 use Rattle.ix_shelf.specs.Sink.{with_bytes, PutsPrefix}
 use Rattle.ix_report.specs.Lines.{line_of}
 use Rattle.ix_report.specs.declared.report.Report as reports
 use Rattle.ix_report.specs.declared.report.Report.TheVariants as told
-use Rattle.ix_message.specs.Message.{reading}
-use Rattle.ix_message.specs.Phys.{phys_netlist}
 use Rattle.ix_flow.specs.declared.answer.Answer.{Answer}
-use Rattle.ix_flow.specs.declared.answer.Answer.TheVariants.{Broken, Unbuilt, Written}
+use Rattle.ix_flow.specs.declared.answer.Answer.TheVariants.{Broken, Unbuilt, TooLong, Written}
 use Rattle.ix_flow.specs.declared.status.Status.{Status}
 use Rattle.ix_flow.specs.declared.status.Status.TheVariants as stat
 use Rattle.ix_flow.specs.Words.{Flow}
-use Rattle.ix_flow.specs.Answer.{answer, empty_netlist}
+use Rattle.ix_flow.specs.Answer.{IsAnswer}
 use Rattle.ix_flow.specs.Status.{status_of}
 
 -- a shelf and a sink at one moment: what they tell, and how often they have failed
@@ -67,14 +65,12 @@ pub record Answers (files : Files) (flow : Flow) (is : Answer) : Type 0 where
   pub design : List ℕ
   pub has_device : files flow.device ≡ Some device
   pub has_design : files flow.design ≡ Some design
-  pub answered : answer device design ≡ is
+  pub answered : IsAnswer device design is
 
--- The named file holds the bytes that are the answer, no other file has changed, and the bytes read as a physical
--- netlist: today always that without cells.
+-- The named file holds the bytes that are the answer, which `IsWritten` says, and no other file has changed.
 pub record IsImplemented (report : reports.Report) (flow : Flow) (files : Files) (after : Option Files) : Type 0 where
   pub bytes : List ℕ
   pub answers : Answers files flow (Written bytes report)
-  pub decodes : reading phys_netlist bytes ≡ Ok empty_netlist
   pub written : after ≡ Some (with_file flow.routed bytes files)
 
 -- The file that is blamed for a fault at reading: the device, or the design once the device was there to be read.
@@ -87,6 +83,9 @@ Tells (told.Implemented cells clusters nets pips trial rounds) flow files after 
 Tells told.Usage flow files after = ⊥
 Tells (told.Bad file rule place) flow files after = Answers files flow (Broken file rule place)
 Tells (told.NotBuilt file) flow files after = Answers files flow (Unbuilt file)
+Tells told.TooLong flow files after = Answers files flow TooLong
+Tells (told.TooFewBels kind cells bels) flow files after = ⊥
+Tells (told.NoSite cell) flow files after = ⊥
 Tells (told.ReadFault file) flow files after = IsFirstUnread flow files file
 Tells (told.WriteFault file) flow files after =
     (file ≡ flow.routed) × (bytes : List ℕ) × (report : reports.Report) × Answers files flow (Written bytes report) × LeavesPrefix flow.routed bytes (Some files) after
@@ -123,12 +122,17 @@ pub record NothingFailed (before after : Outside) : Type 0 where
   pub write : ¬ Rose before.write_faults after.write_faults
   pub put : ¬ Rose before.put_faults after.put_faults
 
--- The status that an answer has, where nothing fails; or want of memory, which may come at any time.
+-- The status that an answer has, where nothing fails.
 abbrev pub IsStatusFor : Answer → Status → Type 0
-IsStatusFor a stat.OutOfMemory = Unit {0}
 IsStatusFor (Broken file rule place) status = status ≡ stat.Bad file rule place
 IsStatusFor (Unbuilt file) status = status ≡ stat.NotBuilt file
+IsStatusFor TooLong status = status ≡ stat.TooLong
 IsStatusFor (Written bytes report) status = status ≡ stat.Done
+
+-- The status is that of an answer to the inputs; or want of memory, which may come at any time.
+abbrev pub IsStatusOn : (device design : List ℕ) → Status → Type 0
+IsStatusOn device design stat.OutOfMemory = Unit {0}
+IsStatusOn device design status = (a : Answer) × IsAnswer device design a × IsStatusFor a status
 
 -- Where the words are taken, the shelf tells its files and has both inputs, and nothing fails, the status is that of the
 -- answer to the inputs.
@@ -136,4 +140,4 @@ abbrev pub IsComplete : Option Flow → (before after : Outside) → Status → 
 IsComplete None before after status = status ≡ stat.Usage
 IsComplete (Some flow) before after status =
     (files : Files) (device design : List ℕ) → before.files ≡ Some files → files flow.device ≡ Some device → files flow.design ≡ Some design
-    → NothingFailed before after → IsStatusFor (answer device design) status
+    → NothingFailed before after → IsStatusOn device design status

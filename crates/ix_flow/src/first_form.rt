@@ -3,7 +3,7 @@
 ghost use Rattle.std.specs.Prelude.{◌≡◌, Ok, Err, IfOk, OnOk, IfErr};
 ghost use Rattle.ix_frame.specs.Objects.{whole_budget};
 ghost use Rattle.ix_frame.specs.Views.{segments_of, object_of, elements_of, text_elements};
-ghost use Rattle.ix_flow.specs.FirstForm.{is_zero_root, texts_read, parts_of, are_plain, is_empty_design, all_of, is_plain_declaration, is_plain_instance, is_empty_top, has_no_instances};
+ghost use Rattle.ix_flow.specs.FirstForm.{texts_read, parts_of, are_plain, is_empty_design, all_of, is_plain_declaration, is_plain_instance, is_empty_top, has_no_instances};
 ghost use Rattle.ix_flow.specs.PartsView.{view_of};
 
 use ix_frame::{Budget, Frame, List, Obj, Texts};
@@ -131,15 +131,6 @@ fn are_plain(parts: &Parts<'_>, budget: &mut Budget) -> bool
         && are_plain_declarations(strings, &parts.declarations)
         && are_plain_instances(strings, declarations, &parts.instances)
         && is_empty_top(parts, budget)
-}
-
-/// Whether the message has a root pointer that is zero, so that all of it is its default.
-#[tactic(auto, unfolding(crate::specs::FirstForm::is_zero_root))]
-pub(crate) fn is_zero_root(frame: &Frame<'_>) -> bool
-    ensures { result ≡ is_zero_root (segments_of frame.now) }
-{
-    let mut budget = Budget::new(frame);
-    frame.root(&mut budget).is_ok() && !frame.has_root()
 }
 
 /// Whether the message is a logical netlist that can be read, with no ports, nets, properties, or instances of its top.

@@ -3,7 +3,7 @@
 ghost use Rattle.std.specs.Prelude.{◌≡◌, ◌≤◌, ◌⊎◌, IfOk, IsErrOf};
 ghost use Rattle.ix_shelf.specs.Shelf.{Rose, IsAbsent};
 ghost use Rattle.ix_flow.specs.WordsView.{flow_view};
-ghost use Rattle.ix_flow.specs.Answer.{answer_of, opened_content};
+ghost use Rattle.ix_flow.specs.Answer.{opened_content};
 ghost use Rattle.ix_flow.specs.Steps.{IsContent, IsJudged, IsPrepared, IsReadFault};
 
 use crate::answer::{Answer, Content, answer_to};
@@ -44,7 +44,7 @@ fn judged(
     device: &Content,
     design: &Content,
 ) -> Result<Prepared, Memory>
-    ensures { IfOk result (IsJudged (flow_view flow.now) (answer_of (opened_content device.now) (opened_content design.now))) }
+    ensures { IfOk result (IsJudged (flow_view flow.now) (opened_content device.now) (opened_content design.now)) }
 {
     match answer_to(alloc, device, design)? {
         Answer::Broken { file, rule, place } => {
@@ -53,6 +53,10 @@ fn judged(
         }
         Answer::Unbuilt(file) => {
             let told = with_line(alloc, Report::NotBuilt(file))?;
+            Ok(Prepared::Refused(told))
+        }
+        Answer::TooLong => {
+            let told = with_line(alloc, Report::TooLong)?;
             Ok(Prepared::Refused(told))
         }
         Answer::Written { bytes, report } => {

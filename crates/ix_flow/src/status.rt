@@ -17,6 +17,22 @@ pub enum Status {
     Bad(File, Rule, Place),
     /// The file is valid so far, and has parts that the program can't handle yet.
     NotBuilt(File),
+    /// The netlist would have 2^27 words or more.
+    TooLong,
+    /// More cells of a type than BELs that admit it.
+    TooFewBels {
+        /// The cell type.
+        kind: Word,
+        /// How many cells of the type the design has.
+        cells: u64,
+        /// How many BELs of the device's sites admit it.
+        bels: u64,
+    },
+    /// A cell finds no place.
+    NoSite {
+        /// The cell.
+        cell: Word,
+    },
     /// An input could not be read: a read of the shelf failed, or the file isn't there.
     ReadFault {
         /// The file's name.
@@ -34,14 +50,15 @@ pub enum Status {
 }
 
 impl Status {
-    /// The exit status of the process: 0, 2, 3, 7, 8 or 9.
+    /// The exit status of the process: 0, 2, 3, 4, 7, 8 or 9.
     pub fn code(&self) -> u8
         ensures { result ≡ code_of self.now }
     {
         match self {
             Status::Done => 0,
             Status::Usage => 2,
-            Status::Bad(_, _, _) => 3,
+            Status::Bad(_, _, _) | Status::TooLong => 3,
+            Status::TooFewBels { .. } | Status::NoSite { .. } => 4,
             Status::ReadFault { .. } | Status::WriteFault { .. } | Status::PutFault => 7,
             Status::OutOfMemory => 8,
             Status::NotBuilt(_) => 9,
@@ -58,6 +75,9 @@ pub(crate) fn status_of(report: Report) -> Status
         Report::Usage => Status::Usage,
         Report::Bad { file, rule, place } => Status::Bad(file, rule, place),
         Report::NotBuilt(file) => Status::NotBuilt(file),
+        Report::TooLong => Status::TooLong,
+        Report::TooFewBels { kind, cells, bels } => Status::TooFewBels { kind, cells, bels },
+        Report::NoSite { cell } => Status::NoSite { cell },
         Report::ReadFault { file } => Status::ReadFault { file },
         Report::WriteFault { file } => Status::WriteFault { file },
         Report::OutOfMemory => Status::OutOfMemory,

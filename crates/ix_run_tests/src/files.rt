@@ -2,6 +2,7 @@
 
 use ix_base_tests::hex::bytes_of;
 use ix_flow::{Status, run};
+use ix_rec::Place;
 use ix_shelf::{MemShelf, MemSink};
 use std::alloc::{AllocError, Global};
 use std::test::Fail;
@@ -16,6 +17,14 @@ pub const DESIGN: &str =
 /// A netlist whose six pointers are zero.
 pub const NETLIST: &str =
     "0000000007000000 0000000000000600 0000000000000000 0000000000000000 0000000000000000 0000000000000000 0000000000000000 0000000000000000";
+
+/// A device of the name `xc`, and nothing else.
+pub const NAMED_DEVICE: &str =
+    "0000000003000000 0000000000000100 010000001a000000 7863000000000000";
+
+/// A netlist of the part `xc`, its other five pointers zero.
+pub const NAMED_NETLIST: &str =
+    "0000000008000000 0000000000000600 150000001a000000 0000000000000000 0000000000000000 0000000000000000 0000000000000000 0000000000000000 7863000000000000";
 
 /// The line of a job on the device and the design above.
 pub const DONE: &str = "done: 0 cells, 0 clusters, 0 nets, 0 pips, trial 1, rounds 1\n";
@@ -60,8 +69,22 @@ pub fn status_text(alloc: Global, status: &Status) -> Result<String, AllocError>
     match status {
         Status::Done => String::from_str(alloc, "done"),
         Status::Usage => String::from_str(alloc, "usage"),
+        Status::Bad(file, rule, Place::Item { kind, field, index }) => {
+            let kind = kind.as_str();
+            let field = field.as_str();
+            format!(in alloc; "item {file:?} {rule:?} {kind}.{field} {index}")
+        }
         Status::Bad(file, rule, place) => format!(in alloc; "bad {file:?} {rule:?} {place:?}"),
         Status::NotBuilt(file) => format!(in alloc; "not built {file:?}"),
+        Status::TooLong => String::from_str(alloc, "too long"),
+        Status::TooFewBels { kind, cells, bels } => {
+            let name = kind.as_str();
+            format!(in alloc; "few {name} {cells} {bels}")
+        }
+        Status::NoSite { cell } => {
+            let name = cell.as_str();
+            format!(in alloc; "no site {name}")
+        }
         Status::ReadFault { file } => {
             let name = file.as_str();
             format!(in alloc; "read {name}")

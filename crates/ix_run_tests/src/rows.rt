@@ -1,6 +1,9 @@
 //! Command lines and files, each with what the program answers.
 
-use crate::files::{DESIGN, DEVICE, DONE, NETLIST, Told, is_hex, run_on, set_hex, two_inputs};
+use crate::files::{
+    DESIGN, DEVICE, DONE, NAMED_DEVICE, NAMED_NETLIST, NETLIST, Told, is_hex, run_on, set_hex,
+    two_inputs,
+};
 use ix_shelf::MemShelf;
 use std::alloc::Global;
 use std::process::Abort;
@@ -19,7 +22,7 @@ struct Row {
 }
 
 /// Files that break a rule, or are missing. No netlist is written for any of them.
-const REFUSED: [Row; 21] = [
+const REFUSED: [Row; 25] = [
     Row {
         what: "an empty device",
         device: "",
@@ -165,20 +168,52 @@ const REFUSED: [Row; 21] = [
         line: "read fault: n\n",
     },
     Row {
-        what: "a device that is not its default",
+        what: "a device whose root points at itself, so that its name is a struct",
         device: "0000000001000000 fcffffff00000100",
         design: DESIGN,
-        status: "not built Device",
-        code: 9,
-        line: "not built yet: device\n",
+        status: "bad Device F4 At { segment: 0, word: 0 }",
+        code: 3,
+        line: "device: F4 at word 0:0\n",
     },
     Row {
-        what: "a device that is not its default, and an empty design",
+        what: "the same, and an empty design",
         device: "0000000001000000 fcffffff00000100",
         design: "",
-        status: "not built Device",
-        code: 9,
-        line: "not built yet: device\n",
+        status: "bad Device F4 At { segment: 0, word: 0 }",
+        code: 3,
+        line: "device: F4 at word 0:0\n",
+    },
+    Row {
+        what: "a tile of a type that is not there",
+        device: "0000000017000000 0000000000000500 0000000000000000 0d00000016000000 0000000000000000 150000002f000000 2900000037000000 0500000012000000 0500000012000000 5400000000000000 5500000000000000 0400000001000400 0000000000000000 0000000000000000 0000000000000000 0000000000000000 0000000000000000 0800000002000100 0000000000000000 0000000000000000 0000000000000000 0100000001000000 0000000000000000 0000000000000000",
+        design: DESIGN,
+        status: "item Device I1 Tile.type 1",
+        code: 3,
+        line: "device: I1 at Tile.type 1\n",
+    },
+    Row {
+        what: "a tile of a name that is not there",
+        device: "0000000017000000 0000000000000500 0000000000000000 0d00000016000000 0000000000000000 150000002f000000 2900000037000000 0500000012000000 0500000012000000 5400000000000000 5500000000000000 0400000001000400 0000000000000000 0000000000000000 0000000000000000 0000000000000000 0000000000000000 0800000002000100 0000000000000000 0000000000000000 0000000000000000 0200000000000000 0000000000000000 0000000000000000",
+        design: DESIGN,
+        status: "item Device I1 Tile.name 1",
+        code: 3,
+        line: "device: I1 at Tile.name 1\n",
+    },
+    Row {
+        what: "two tiles of one name",
+        device: "0000000017000000 0000000000000500 0000000000000000 0d00000016000000 0000000000000000 150000002f000000 2900000037000000 0500000012000000 0500000012000000 5400000000000000 5500000000000000 0400000001000400 0000000000000000 0000000000000000 0000000000000000 0000000000000000 0000000000000000 0800000002000100 0000000000000000 0000000000000000 0000000000000000 0000000000000000 0000000000000000 0000000000000000",
+        design: DESIGN,
+        status: "item Device M1 Tile.name 1",
+        code: 3,
+        line: "device: M1 at Tile.name 1\n",
+    },
+    Row {
+        what: "two tiles of two names, and an empty design",
+        device: "0000000017000000 0000000000000500 0000000000000000 0d00000016000000 0000000000000000 150000002f000000 2900000037000000 0500000012000000 0500000012000000 5400000000000000 5500000000000000 0400000001000400 0000000000000000 0000000000000000 0000000000000000 0000000000000000 0000000000000000 0800000002000100 0000000000000000 0000000000000000 0000000000000000 0100000000000000 0000000000000000 0000000000000000",
+        design: "",
+        status: "bad Design F1 File",
+        code: 3,
+        line: "design: F1 at file\n",
     },
     Row {
         what: "a design whose top has an instance",
@@ -289,6 +324,18 @@ fn jobs(rt: HostRuntime) -> Result<(), Fail> {
     check_job(&rt, alloc, "flow|d|n|r", (DEVICE, DESIGN, NETLIST))?;
     check_job(&rt, alloc, "flow|d|n|d", (NETLIST, DESIGN, "-"))?;
     check_job(&rt, alloc, "flow|d|n|n", (DEVICE, NETLIST, "-"))
+}
+
+#[test]
+fn parts(rt: HostRuntime) -> Result<(), Fail> {
+    let alloc = rt.alloc();
+    let mut shelf = MemShelf::new(alloc);
+    set_hex(alloc, &mut shelf, "d", NAMED_DEVICE)?;
+    set_hex(alloc, &mut shelf, "n", DESIGN)?;
+    let told = run_on(alloc, "flow|d|n|r", &mut shelf)?;
+    check_told(&rt, "a device with a name", &told, "done", 0, DONE);
+    let files = (NAMED_DEVICE, DESIGN, NAMED_NETLIST);
+    check_files(&rt, alloc, &shelf, "a device with a name", files)
 }
 
 #[test]

@@ -51,8 +51,8 @@ pub fn write_strings(
     Ok(())
 }
 
-/// Each name is UTF-8. A `str` is that by its type, but a table of names is seen as lists of bytes, so each name is
-/// looked up once to know it of all.
+/// Each name is UTF-8. A `str` is that by its type, but contracts see a table of names as lists of bytes: looking each
+/// name up tells them so. It costs one look at each name.
 pub fn names_are_utf8(names: &Names)
     ensures { All IsText names.now }
 {

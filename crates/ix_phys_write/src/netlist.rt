@@ -11,13 +11,14 @@ use crate::nets::Nets;
 use ix_capw::{At, BuildFault, Builder};
 use ix_message::slots;
 use ix_message_write::{
-    Strings, StructWriter, names_are_utf8, note_list, write_list, write_message, write_strings, write_text,
+    Strings, StructWriter, names_are_utf8, note_list, write_list, write_message, write_strings,
+    write_text,
 };
 use ix_rec::Phys;
 use ix_strings::Names;
 use std::alloc::Global;
 
-/// The file of a physical netlist.
+/// The file of a physical netlist, which reads again as the netlist.
 ///
 /// # Errors
 ///
@@ -29,6 +30,7 @@ pub fn write_phys(alloc: Global, phys: &Phys, names: &Names) -> Result<Vec<u8>, 
     ensures fits { OnOk result (is_too_long phys_netlist (phys_record names.now phys.now) ≡ false) }
     ensures too_long { result ≡ Err BuildFault.TooLong → IsTrue (is_too_long phys_netlist (phys_record names.now phys.now)) }
 {
+    // Only texts in UTF-8 read again.
     names_are_utf8(names);
     write_message::<Netlist>(alloc, phys, names)
 }

@@ -50,7 +50,7 @@ place_none (y ∷ ys) t e = go (same_text y t) e (λ h. place_none ys t h)
     go true h later = absurd cc
     go false h later = omega (arith, later h)
 
-has_last : (ys : List Text) (t : Text) → has_text (ys ++ t ∷ []) t ≡ true
+pub has_last : (ys : List Text) (t : Text) → has_text (ys ++ t ∷ []) t ≡ true
 has_last [] t = rw same_text-refl refl
 has_last (y ∷ ys) t = go (same_text y t) (has_last ys t)
   where

@@ -4,3 +4,4 @@ pub mod Turns
 pub mod RowLemmas
 pub mod Whole
 pub mod Steps
+pub mod Fitting

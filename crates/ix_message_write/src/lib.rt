@@ -14,4 +14,4 @@ pub use message::write_message;
 pub use row::write_row;
 pub use string_table::Strings;
 pub use struct_writer::StructWriter;
-pub use texts::{write_strings, write_text};
+pub use texts::{names_are_utf8, write_strings, write_text};

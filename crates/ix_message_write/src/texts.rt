@@ -1,13 +1,16 @@
 //! Texts, and the list of the texts that a message uses.
 
 ghost use Rattle.std.specs.Prelude.{◌≡◌, ◌<◌};
+ghost use Rattle.std.specs.List.{All};
 ghost use Rattle.ix_message.specs.Layout.{text_laid, texts_laid};
+ghost use Rattle.ix_message.specs.Records.{IsText};
 ghost use Rattle.ix_capw.specs.Growth.{IsInside, pointer_word};
 ghost use Rattle.ix_message_write.specs.Table.{table_in, IsTableOf};
 ghost use Rattle.ix_message_write.specs.Says.{Puts};
 
 use crate::string_table::Strings;
 use ix_capw::{At, BuildFault, Builder};
+use ix_num::NameId;
 use ix_strings::Names;
 
 /// Puts a text, and leads the pointer in this slot to it.
@@ -46,4 +49,14 @@ pub fn write_strings(
         }
     }
     Ok(())
+}
+
+/// Each name is UTF-8. A `str` is that by its type, but contracts see a table of names as lists of bytes: looking each
+/// name up tells them so. It costs one look at each name.
+pub fn names_are_utf8(names: &Names)
+    ensures { All IsText names.now }
+{
+    for i in 0..names.len() {
+        let _text = names.name(NameId::new(i));
+    }
 }

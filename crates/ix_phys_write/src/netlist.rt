@@ -1,7 +1,7 @@
 //! The whole netlist.
 
-ghost use Rattle.std.specs.Prelude.{◌≡◌, false, IsTrue, Err, IfOk, OnOk};
-ghost use Rattle.ix_message.specs.Message.{encoding, is_too_long};
+ghost use Rattle.std.specs.Prelude.{◌≡◌, false, IsTrue, Ok, Err, IfOk, OnOk};
+ghost use Rattle.ix_message.specs.Message.{encoding, is_too_long, reading};
 ghost use Rattle.ix_message.specs.Phys.{phys_netlist};
 ghost use Rattle.ix_phys_write.specs.Record.{phys_record, IsPhysNamed};
 ghost use Rattle.ix_phys_write.specs.Wide.{phys_wide};
@@ -11,13 +11,14 @@ use crate::nets::Nets;
 use ix_capw::{At, BuildFault, Builder};
 use ix_message::slots;
 use ix_message_write::{
-    Strings, StructWriter, note_list, write_list, write_message, write_strings, write_text,
+    Strings, StructWriter, names_are_utf8, note_list, write_list, write_message, write_strings,
+    write_text,
 };
 use ix_rec::Phys;
 use ix_strings::Names;
 use std::alloc::Global;
 
-/// The file of a physical netlist.
+/// The file of a physical netlist, which reads again as the netlist.
 ///
 /// # Errors
 ///
@@ -25,9 +26,12 @@ use std::alloc::Global;
 pub fn write_phys(alloc: Global, phys: &Phys, names: &Names) -> Result<Vec<u8>, BuildFault>
     requires { IsPhysNamed names.now phys.now }
     ensures bytes { IfOk result (λ file. file.items ≡ encoding phys_netlist (phys_record names.now phys.now)) }
+    ensures reads { IfOk result (λ file. reading phys_netlist file.items ≡ Ok (phys_record names.now phys.now)) }
     ensures fits { OnOk result (is_too_long phys_netlist (phys_record names.now phys.now) ≡ false) }
     ensures too_long { result ≡ Err BuildFault.TooLong → IsTrue (is_too_long phys_netlist (phys_record names.now phys.now)) }
 {
+    // Only texts in UTF-8 read again.
+    names_are_utf8(names);
     write_message::<Netlist>(alloc, phys, names)
 }
 

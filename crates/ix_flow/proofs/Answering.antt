@@ -1,13 +1,9 @@
 -- From what the code has to the answer.
-use Rattle.std.proofs.Common.{◌≡◌, ap, sym, subst, ◌∙◌, ℕ, List, false, true, Result, Ok, Err, IfOk}
+use Rattle.std.proofs.Common.{◌≡◌, sym, subst, ℕ, List, Result, Ok, Err, IfOk}
 use Rattle.ix_frame.specs.Segments.{Segments}
-use Rattle.ix_message.specs.Shape.{Text, Value}
-use Rattle.ix_message.specs.Names.{Datum}
-use Rattle.ix_message.specs.Message.{reading, encoding, is_too_long}
-use Rattle.ix_message.specs.Phys.{phys_netlist}
+use Rattle.ix_message.specs.Shape.{Text}
 use Rattle.ix_rec.specs.declared.device.DeviceRec.{DeviceRec}
 use Rattle.ix_rec.specs.declared.place.Rule.{Rule}
-use Rattle.ix_rec.specs.declared.place.File.{File}
 use Rattle.ix_device_read.specs.Numbers.{name_text}
 use Rattle.ix_flow.specs.declared.answer.Answer.{Answer}
 use Rattle.ix_flow.specs.declared.answer.Answer.TheVariants.{Broken, Unbuilt, TooLong, Written}

@@ -1,16 +1,15 @@
 -- Where nothing fails, the status is that of the answer.
-use Rattle.std.proofs.Common.{◌≡◌, ◌∙◌, ◌⊎◌, inl, inr, ℕ, List, Option, Some, None, ap, subst, sym, refl}
-use Rattle.ix_shelf.specs.Shelf.{Files, Rose, IsAbsent}
+use Rattle.std.proofs.Common.{◌≡◌, inl, inr, ℕ, List, Option, Some, None, subst, sym, refl}
+use Rattle.ix_shelf.specs.Shelf.{Files, IsAbsent}
 use Rattle.ix_report.specs.declared.report.Report.{Report}
 use Rattle.ix_report.specs.declared.report.Report.TheVariants as told
 use Rattle.ix_flow.specs.declared.answer.Answer.{Answer}
-use Rattle.ix_flow.specs.declared.answer.Answer.TheVariants.{Broken, Unbuilt, Written}
 use Rattle.ix_flow.specs.declared.status.Status.{Status}
 use Rattle.ix_flow.specs.declared.status.Status.TheVariants as stat
 use Rattle.ix_flow.specs.Words.{Flow}
 use Rattle.ix_flow.specs.Answer.{IsAnswer}
 use Rattle.ix_flow.specs.Status.{status_of}
-use Rattle.ix_flow.specs.Run.{Outside, IsStatusOf, Answers, Tells, HasCause, IsFirstUnread, IsFlowRun, IsRun, NothingFailed, IsStatusOn, IsComplete}
+use Rattle.ix_flow.specs.Run.{Outside, IsStatusOf, Answers, Tells, HasCause, IsFirstUnread, IsRun, NothingFailed, IsStatusOn, IsComplete}
 
 -- the answer to files is the answer to what they hold
 same_answer : (files : Files) (flow : Flow) (a : Answer) (device design : List ℕ) → Answers files flow a → files flow.device ≡ Some device → files flow.design ≡ Some design → IsAnswer device design a

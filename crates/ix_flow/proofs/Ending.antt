@@ -1,5 +1,5 @@
 -- How a run ends.
-use Rattle.std.proofs.Common.{◌≡◌, ◌≢◌, ◌≤◌, ◌⊎◌, ◌∙◌, ℕ, List, [], ◌∷◌, Option, Some, None, Ok, option_map, ap, subst, sym, refl, arith}
+use Rattle.std.proofs.Common.{◌≡◌, ◌∙◌, Option, Some, option_map, ap, subst, sym, refl}
 use Rattle.ix_shelf.specs.Shelf.{Files, with_file, Rose, LeavesPrefix}
 use Rattle.ix_shelf.specs.Sink.{with_bytes, PutsPrefix}
 use Rattle.ix_report.specs.Lines.{line_of}
@@ -13,7 +13,7 @@ use Rattle.ix_flow.specs.declared.status.Status.TheVariants as stat
 use Rattle.ix_flow.specs.Words.{Flow}
 use Rattle.ix_flow.specs.Answer.{implemented}
 use Rattle.ix_flow.specs.Status.{status_of}
-use Rattle.ix_flow.specs.Run.{Outside, KeepsCounts, Prints, IsStatusOf, Answers, IsImplemented, Tells, IsFlowRun}
+use Rattle.ix_flow.specs.Run.{Outside, KeepsCounts, Prints, IsStatusOf, Answers, Tells, IsFlowRun}
 use Rattle.ix_flow.specs.Steps.{IsReady, IsReadyFor, TellsRefusal, IsCaused}
 
 -- A run that refuses, with no file touched.

@@ -1,14 +1,13 @@
 -- From what was read of the files to what is told of them.
-use Rattle.std.proofs.Common.{◌≡◌, ◌≤◌, ◌<◌, ◌^◌, ◌⊎◌, ◌∙◌, ℕ, List, length, Bool, true, false, cond, Option, Some, None, Result, Ok, Err, IfOk, ap, subst, sym, refl, arith}
+use Rattle.std.proofs.Common.{◌≡◌, ◌^◌, ◌∙◌, ℕ, List, length, Option, Some, Result, Ok, Err, IfOk, ap, subst, sym, refl}
 use Rattle.std.proofs.lemmas.Bool.{lt-ltb}
 use Rattle.ix_rec.specs.declared.place.Rule.{Rule}
-use Rattle.ix_rec.specs.declared.place.File.{File}
 use Rattle.ix_shelf.specs.Shelf.{Files}
 use Rattle.ix_frame.specs.Segments.{Segments}
 use Rattle.ix_report.specs.declared.report.Report.{Report}
 use Rattle.ix_report.specs.declared.report.Report.TheVariants as told
 use Rattle.ix_flow.specs.declared.answer.Answer.{Answer}
-use Rattle.ix_flow.specs.declared.answer.Answer.TheVariants.{Broken, Unbuilt, TooLong, Written}
+use Rattle.ix_flow.specs.declared.answer.Answer.TheVariants.{Written}
 use Rattle.ix_flow.specs.declared.answer.Content.{Content}
 use Rattle.ix_flow.specs.declared.answer.Content.TheVariants as content
 use Rattle.ix_flow.specs.declared.job.Job.{Job}

@@ -1,7 +1,6 @@
 -- A walk over a list that has stopped stays so.
-use Rattle.std.proofs.Common.{◌≡◌, ◌≤◌, ◌<◌, ◌+◌, ◌-◌, ◌∙◌, ℕ, zero, suc, List, Bool, true, false, ◌&&◌, Result, Ok, Err, ap, subst, sym, refl, arith, add-zero, add-suc, add-one}
+use Rattle.std.proofs.Common.{◌≡◌, ◌<◌, ◌+◌, ◌-◌, ℕ, zero, suc, List, Bool, true, false, Ok, Err, subst, refl, arith, add-zero, add-suc, add-one}
 use Rattle.ix_num.specs.declared.fault.FrameFault.{FrameFault}
-use Rattle.ix_frame.specs.Result.{◌>>=◌}
 use Rattle.ix_frame.specs.Target.{Object, Elements}
 use Rattle.ix_frame.specs.Objects.{text_in, element_of}
 use Rattle.ix_flow.specs.FirstForm.{texts_read, all_first}

@@ -1,5 +1,5 @@
 -- What the program answers to the bytes of its two files, where nothing fails and memory doesn't run out.
-use Rattle.std.specs.Prelude.{◌≡◌, ◌⊎◌, ℕ, ◌^◌, Bool, true, false, nat_lt, List, [], length, Result, Ok, Err, None, if◌then◌else◌}
+use Rattle.std.specs.Prelude.{◌≡◌, ◌⊎◌, ℕ, ◌^◌, true, false, nat_lt, List, [], length, Result, Ok, Err, None, if◌then◌else◌}
 use Rattle.ix_num.specs.declared.fault.FrameFault.{FrameFault}
 use Rattle.ix_num.specs.declared.fault.FrameRule.{FrameRule}
 use Rattle.ix_num.specs.declared.fault.FrameRule.TheVariants as framed_rule

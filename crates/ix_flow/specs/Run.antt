@@ -1,5 +1,5 @@
 -- What a run of the program does to the outside, and what its status says.
-use Rattle.std.specs.Prelude.{◌≡◌, ◌≢◌, ◌≤◌, ◌⊎◌, ℕ, List, [], Option, Some, None, IsSome}
+use Rattle.std.specs.Prelude.{◌≡◌, ◌≢◌, ◌≤◌, ◌⊎◌, ℕ, List, Option, Some, None, IsSome}
 use Rattle.ix_shelf.specs.Shelf.{Files, with_file, Rose, IsAbsent, LeavesPrefix}
 use Rattle.ix_shelf.specs.Sink.{with_bytes, PutsPrefix}
 use Rattle.ix_report.specs.Lines.{line_of}

@@ -1,12 +1,10 @@
 //! The answer to the bytes of a device and a design.
 
-ghost use Rattle.std.specs.Prelude.{◌≡◌, ◌<◌, false, Ok, IfOk, [], length};
+ghost use Rattle.std.specs.Prelude.{◌≡◌, ◌<◌, Ok, IfOk, [], length};
 ghost use Rattle.ix_frame.specs.Result.{Finds};
 ghost use Rattle.ix_frame.specs.Views.{segments_of};
 ghost use Rattle.ix_frame.specs.Segments.{Segments};
 ghost use Rattle.ix_message.specs.Device.{device};
-ghost use Rattle.ix_message.specs.Message.{reading, encoding, is_too_long};
-ghost use Rattle.ix_message.specs.Phys.{phys_netlist};
 ghost use Rattle.ix_device_read.specs.Reading.{reading_in_segments, Refuses};
 ghost use Rattle.ix_device_read.specs.Named.{DeviceNamed};
 ghost use Rattle.ix_device_read.specs.Numbers.{name_text};
@@ -187,19 +185,11 @@ fn nothing_implemented() -> Report
     }
 }
 
-// The file of a netlist without cells reads again as itself, unless it is too long.
-fn reads_again(part: &str)
-    ensures { is_too_long phys_netlist (netlist_for part.now) ≡ false → reading phys_netlist (encoding phys_netlist (netlist_for part.now)) ≡ Ok (netlist_for part.now) }
-{
-    let _ = part;
-}
-
 // Writes the netlist of a device and a design without cells. `Memory` is its only error.
 fn written(alloc: Global, part: NameId, names: &Names) -> Result<Answer, Memory>
     requires { part < length names.now }
     ensures { IfOk result (IsNetlistOf (netlist_for (name_text names.now part))) }
 {
-    reads_again(names.name(part));
     let phys = netlist_without_cells(alloc, part);
     match write_phys(alloc, &phys, names) {
         Ok(bytes) => Ok(Answer::Written {

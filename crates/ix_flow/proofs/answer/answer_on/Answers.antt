@@ -1,4 +1,4 @@
-use Rattle.std.proofs.Common.{◌≡◌, ap, sym}
+use Rattle.std.proofs.Common.{ap, sym}
 use Rattle.ix_frame.specs.Views.{segments_of}
 use Rattle.ix_flow.specs.Answer.{opened_content}
 use Rattle.ix_flow.proofs.Answering.{answered}

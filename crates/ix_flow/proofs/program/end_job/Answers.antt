@@ -1,4 +1,4 @@
-use Rattle.std.proofs.Common.{◌≡◌, ◌∙◌, List, ℕ, option_map, ap, subst, sym, arith}
+use Rattle.std.proofs.Common.{◌∙◌, List, ℕ, option_map, ap, subst, arith}
 use Rattle.ix_shelf.specs.Shelf.{with_file, LeavesPrefix}
 use Rattle.ix_shelf.specs.Sink.{with_bytes, PutsPrefix}
 use Rattle.ix_flow.specs.WordsView.{flow_view}

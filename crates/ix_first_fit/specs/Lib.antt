@@ -1,0 +1,4 @@
+pub mod Spots
+pub mod Fit
+pub mod Netlist
+pub mod Answers

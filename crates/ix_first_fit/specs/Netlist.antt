@@ -3,6 +3,7 @@ use Rattle.std.specs.Prelude.{◌≡◌, ℕ, List, [], ◌∷◌, ◌++◌, len
 use Rattle.std.specs.List.{list_any}
 use Rattle.std.specs.List.Sorted.{IsPermutation, IsNonDecreasingBy}
 use Rattle.ix_rec.specs.declared.device.DeviceRec.{DeviceRec}
+use Rattle.ix_rec.specs.declared.device.SiteType.{SiteType}
 use Rattle.ix_rec.specs.declared.phys.PinMapping.{PinMapping}
 use Rattle.ix_rec.specs.declared.phys.CellPlacement.{CellPlacement}
 use Rattle.ix_rec.specs.declared.phys.SiteInstance.{SiteInstance}
@@ -16,16 +17,16 @@ use Rattle.ix_first_fit.specs.Spots.{type_at, pins_at}
 abbrev pub bel_name : DeviceRec → Spot → Option ℕ
 bel_name rec p = option_and_then (λ t. option_map (λ b. b.name) (slice_get t.bels p.bel)) (type_at rec p.site)
 
--- the name of a BEL pin of a site's type
-abbrev pub pin_name : DeviceRec → (site pin : ℕ) → Option ℕ
-pin_name rec site pin = option_and_then (λ t. option_map (λ q. q.name) (slice_get t.bel_pins pin)) (type_at rec site)
-
 -- the names of a cell pin, the BEL, and the BEL pin
 abbrev pub pin_told : PinMapping → Option (ℕ × ℕ × ℕ)
 pin_told m = Some (m.cell_pin, m.bel, m.bel_pin)
 
+-- the same of a cell pin and the number of a BEL pin
+abbrev pub pin_in : SiteType → (bel : ℕ) → ℕ × ℕ → Option (ℕ × ℕ × ℕ)
+pin_in t bel pin = option_map (λ q. (pin.0, bel, q.name)) (slice_get t.bel_pins pin.1)
+
 abbrev pub pin_wanted : DeviceRec → (site bel : ℕ) → ℕ × ℕ → Option (ℕ × ℕ × ℕ)
-pin_wanted rec site bel pin = option_map (λ name. (pin.0, bel, name)) (pin_name rec site pin.1)
+pin_wanted rec site bel pin = option_and_then (λ t. pin_in t bel pin) (type_at rec site)
 
 -- All pins by which a place takes a cell's type, by rising BEL pin number.
 pub record IsPinMap (rec : DeviceRec) (ty : ℕ) (p : Spot) (bel : ℕ) (pins : List PinMapping) : Type 0 where

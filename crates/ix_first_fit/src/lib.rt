@@ -6,8 +6,12 @@ mod cell;
 mod counts;
 mod fault;
 mod fit;
+mod netlist;
 mod number;
+mod pin_map;
 mod places;
+mod whole;
 
 pub use cell::{Cell, Spot};
 pub use fault::FitFault;
+pub use whole::first_fit;

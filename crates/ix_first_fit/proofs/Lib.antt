@@ -1,0 +1,4 @@
+pub mod Walks
+pub mod Counting
+pub mod Fitting
+pub mod Netlists

@@ -1,0 +1,6 @@
+pub mod Spots
+pub mod Fit
+pub mod Netlist
+pub mod Answers
+pub mod ByTypes
+pub mod Taken

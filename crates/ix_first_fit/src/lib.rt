@@ -1,0 +1,17 @@
+//! Placing cells that have no nets: each cell, in order, takes the first BEL that is free and admits it.
+#![tactic(auto)]
+
+mod by_type;
+mod cell;
+mod counts;
+mod fault;
+mod fit;
+mod netlist;
+mod number;
+mod pin_map;
+mod places;
+mod whole;
+
+pub use cell::{Cell, Spot};
+pub use fault::FitFault;
+pub use whole::first_fit;

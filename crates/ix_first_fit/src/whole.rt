@@ -1,0 +1,36 @@
+//! First fit as a whole.
+
+ghost use Rattle.std.specs.Prelude.{IfOk, IfErr};
+ghost use Rattle.ix_first_fit.specs.Answers.{IsFitted, IsFitFault};
+
+use crate::cell::Cell;
+use crate::counts::check_counts;
+use crate::fault::FitFault;
+use crate::fit::fit;
+use crate::netlist::netlist;
+use ix_device::Device;
+use ix_rec::{Items, Phys};
+use std::alloc::Global;
+
+/// The physical netlist of cells that have no nets: each cell, in order, is on the first BEL, by site and by BEL number,
+/// that is free and admits its type.
+///
+/// # Errors
+///
+/// `TooFewBels` exactly where a type has more cells than the BELs that admit it, for the first such type by first cell;
+/// `NoSite` exactly where no type has, and first fit stops at this cell; `Memory`.
+pub fn first_fit(alloc: Global, device: &Device, cells: &Items<Cell>) -> Result<Phys, FitFault>
+    ensures fitted { IfOk result (IsFitted device.now cells.now) }
+    ensures err { IfErr result (IsFitFault device.now cells.now) }
+{
+    match check_counts(alloc, device, cells) {
+        Err(fault) => Err(fault),
+        Ok(()) => match fit(alloc, device, cells) {
+            Err(fault) => Err(fault),
+            Ok(places) => match netlist(alloc, device, cells, &places.into_spots()) {
+                Err(_) => Err(FitFault::Memory),
+                Ok(phys) => Ok(phys),
+            },
+        },
+    }
+}

@@ -1,0 +1,4 @@
+pub mod Bare
+pub mod Design
+pub mod FirstForm
+pub mod PartsView

@@ -1,2 +1,3 @@
 mod Walks
 pub mod Fitting
+pub mod Places

@@ -5,3 +5,4 @@ pub mod PartsView
 pub mod Numbers
 pub mod CountsView
 pub mod RawWords
+pub mod Types

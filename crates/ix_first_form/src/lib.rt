@@ -2,4 +2,8 @@
 #![tactic(auto)]
 
 mod bare;
+mod first_cell;
 mod numbers;
+mod types;
+
+pub use first_cell::Cell;

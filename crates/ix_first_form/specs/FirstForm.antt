@@ -60,12 +60,14 @@ cell_texts table v i = (instance_name table (instance_at v i), type_name table v
 abbrev pub cells_of : List Text → Design → List (Text × Text)
 cells_of table v = map (cell_texts table v) (top_instances v)
 
--- each number is in its list, and there are just cells of the top, at most 2^22, whose names differ
+-- at most 2^22 such instances, whose names differ
+abbrev pub are_leaves : List Text → DeviceRec → List Text → Design → List ℕ → Bool
+are_leaves names rec table v insts =
+    nat_le (length insts) (2 ^ 22) && list_all (is_leaf names rec table v) insts && texts_differ (map (λ i. instance_name table (instance_at v i)) insts)
+
+-- each number is in its list, and there are just cells of the top
 abbrev pub is_flat : List Text → DeviceRec → List Text → Design → Bool
-is_flat names rec table v =
-    is_none (first_bad netlist (length table) v)
-    && has_top_alone v && nat_le (length (top_instances v)) (2 ^ 22)
-    && list_all (is_leaf names rec table v) (top_instances v) && texts_differ (map (λ c. c.0) (cells_of table v))
+is_flat names rec table v = is_none (first_bad netlist (length table) v) && has_top_alone v && are_leaves names rec table v (top_instances v)
 
 -- A file's segments are a design that has a reading and is in first form, for a device with these names.
 unfoldable pub is_first_form : List Text → DeviceRec → Segments → Bool

@@ -6,3 +6,5 @@ pub mod Numbers
 pub mod CountsView
 pub mod RawWords
 pub mod Types
+pub mod Leaves
+pub mod FirstCells

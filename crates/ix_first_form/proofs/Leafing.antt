@@ -9,7 +9,7 @@ use Rattle.ix_logic_raw.specs.declared.raw.netlist.RawNetlist.{RawNetlist}
 use Rattle.ix_logic_raw.specs.declared.raw.instance.RawCellInstance.{RawCellInstance}
 use Rattle.ix_logic_raw.specs.Raw.{cell_instance_numbers, netlist_numbers}
 use Rattle.ix_device.proofs.Walks.{take_next, all_next}
-use Rattle.ix_first_form.specs.declared.first_cell.Cell.{Cell}
+use Rattle.ix_first_fit.specs.declared.cell.Cell.{Cell}
 use Rattle.ix_first_form.specs.Design.{Design, instance_at, declaration_of}
 use Rattle.ix_first_form.specs.Numbers.{Counts, instance_fits}
 use Rattle.ix_first_form.specs.RawWords.{raw_fits}

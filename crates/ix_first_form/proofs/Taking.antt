@@ -15,7 +15,7 @@ use Rattle.ix_logic_raw.specs.declared.raw.instance.RawCellDeclaration.{RawCellD
 use Rattle.ix_logic_raw.specs.Raw.{cell_declaration_numbers, netlist_numbers}
 use Rattle.ix_rec.specs.declared.device.DeviceRec.{DeviceRec}
 use Rattle.ix_device.specs.Elements.{differ}
-use Rattle.ix_first_form.specs.declared.first_cell.Cell.{Cell}
+use Rattle.ix_first_fit.specs.declared.cell.Cell.{Cell}
 use Rattle.ix_first_form.specs.Design.{Design, instance_at, declaration_at, declaration_of, instance_name, declared_name, type_name}
 use Rattle.ix_first_form.specs.RawWords.{raw_fits}
 use Rattle.ix_first_form.specs.Leaves.{leaf_type, AreLeaves}

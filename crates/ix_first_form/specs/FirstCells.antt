@@ -4,7 +4,7 @@ use Rattle.std.specs.List.{AllByRecursion, list_all}
 use Rattle.ix_message.specs.Shape.{Text}
 use Rattle.ix_rec.specs.declared.device.DeviceRec.{DeviceRec}
 use Rattle.ix_device.specs.Elements.{differ}
-use Rattle.ix_first_form.specs.declared.first_cell.Cell.{Cell}
+use Rattle.ix_first_fit.specs.declared.cell.Cell.{Cell}
 use Rattle.ix_first_form.specs.FirstForm.{is_plain_type}
 
 -- the name and the type of a cell, as texts

@@ -1,7 +1,7 @@
 -- The cells of a netlist, by the cell types of its declarations: of each its number, or none where it can't be placed.
 use Rattle.std.specs.Prelude.{◌≡◌, ℕ, List, [], ◌∷◌, nat_eq, Option, Some, None, slice_get, slice_index_or, if◌then◌else◌}
 use Rattle.ix_message.specs.Shape.{Text}
-use Rattle.ix_first_form.specs.declared.first_cell.Cell.{Cell}
+use Rattle.ix_first_fit.specs.declared.cell.Cell.{Cell}
 use Rattle.ix_first_form.specs.Design.{Design, top, declaration_of, instance_at, instance_name}
 
 -- the type of an instance, which isn't of the top's declaration

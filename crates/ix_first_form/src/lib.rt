@@ -3,10 +3,8 @@
 
 mod bare;
 mod cells;
-mod first_cell;
 mod numbers;
 mod read;
 mod types;
 
-pub use first_cell::Cell;
 pub use read::read_first_form;

@@ -12,7 +12,7 @@ ghost use Rattle.ix_first_form.specs.RawWords.{raw_fits, raw_has_top_alone};
 
 use crate::bare::is_bare;
 use crate::cells::{add_cells, names_differ};
-use crate::first_cell::Cell;
+use ix_first_fit::Cell;
 use crate::numbers::{has_no_nets, numbers_fit};
 use crate::types::{mapped_types, plain_types};
 use ix_device::Device;

@@ -79,7 +79,7 @@ nat_eq_sym a b = by (nat_eq a b) refl
     by true h = sym (eq-eqb b a (sym (eqb-true a b h)))
     by false h = sym (ne_eqb b a (λ e. eqb-false a b h (sym e)))
 
-with_used : (sites : List ℕ) (s q : ℕ) → list_any (λ t. nat_eq q t) (with_site sites s) ≡ (list_any (λ t. nat_eq q t) sites || nat_eq s q)
+pub with_used : (sites : List ℕ) (s q : ℕ) → list_any (λ t. nat_eq q t) (with_site sites s) ≡ (list_any (λ t. nat_eq q t) sites || nat_eq s q)
 with_used sites s q = by (list_any (λ t. nat_eq s t) sites) refl
   where
     there : (b : Bool) → nat_eq s q ≡ b → list_any (λ t. nat_eq s t) sites ≡ true → list_any (λ t. nat_eq q t) sites ≡ (list_any (λ t. nat_eq q t) sites || b)

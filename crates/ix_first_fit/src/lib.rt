@@ -6,6 +6,7 @@ mod cell;
 mod counts;
 mod fault;
 mod fit;
+mod laws;
 mod netlist;
 mod number;
 mod pin_map;
@@ -14,4 +15,5 @@ mod whole;
 
 pub use cell::{Cell, Spot};
 pub use fault::FitFault;
+pub use laws::fits_have_own_places;
 pub use whole::first_fit;

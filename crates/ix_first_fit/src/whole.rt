@@ -1,6 +1,11 @@
 //! First fit as a whole.
 
-ghost use Rattle.std.specs.Prelude.{IfOk, IfErr};
+ghost use Rattle.std.specs.Prelude.{List, length, IfOk, IfErr};
+ghost use Rattle.std.specs.List.{AllByRecursion};
+ghost use Rattle.ix_message.specs.Shape.{Text};
+ghost use Rattle.ix_device_read.specs.Named.{DeviceNamed};
+ghost use Rattle.ix_phys_write.specs.Record.{IsPhysNamed};
+ghost use Rattle.ix_first_fit.specs.Named.{CellNamed};
 ghost use Rattle.ix_first_fit.specs.Answers.{IsFitted, IsFitFault};
 
 use crate::cell::Cell;
@@ -22,6 +27,7 @@ use std::alloc::Global;
 pub fn first_fit(alloc: Global, device: &Device, cells: &Items<Cell>) -> Result<Phys, FitFault>
     ensures fitted { IfOk result (IsFitted device.now cells.now) }
     ensures err { IfErr result (IsFitFault device.now cells.now) }
+    ensures named { (names : List Text) → DeviceNamed (length names) device.now → AllByRecursion (CellNamed (length names)) cells.now → IfOk result (IsPhysNamed names) }
 {
     match check_counts(alloc, device, cells) {
         Err(fault) => Err(fault),

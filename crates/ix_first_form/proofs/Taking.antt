@@ -21,7 +21,8 @@ use Rattle.ix_first_form.specs.RawWords.{raw_fits}
 use Rattle.ix_first_form.specs.Leaves.{leaf_type, AreLeaves}
 use Rattle.ix_first_form.specs.Types.{kept, plain_type, plain_types}
 use Rattle.ix_first_form.specs.FirstForm.{is_plain_type, passes, texts_differ, is_leaf, cell_texts}
-use Rattle.ix_first_form.specs.FirstCells.{cell_seen, CellNamed, AreFirst}
+use Rattle.ix_first_fit.specs.Named.{CellNamed}
+use Rattle.ix_first_form.specs.FirstCells.{cell_seen, AreFirst}
 use Rattle.ix_first_form.proofs.Places.{both, mapped_at}
 use Rattle.ix_first_form.proofs.Leafing.{instance_in, instance_within}
 

@@ -57,8 +57,10 @@ by_report flow before after status (told.NotBuilt file) s cause files device des
     subst (IsStatusOn device design) (sym s) (_, same_answer files flow _ device design h first second, refl)
 by_report flow before after status told.TooLong s cause files device design e first second n h =
     subst (IsStatusOn device design) (sym s) (_, same_answer files flow _ device design h first second, refl)
-by_report flow before after status (told.TooFewBels kind cells bels) s cause files device design e first second n h = absurd h
-by_report flow before after status (told.NoSite cell) s cause files device design e first second n h = absurd h
+by_report flow before after status (told.TooFewBels kind cells bels) s cause files device design e first second n h =
+    subst (IsStatusOn device design) (sym s) (_, same_answer files flow _ device design h first second, refl)
+by_report flow before after status (told.NoSite cell) s cause files device design e first second n h =
+    subst (IsStatusOn device design) (sym s) (_, same_answer files flow _ device design h first second, refl)
 by_report flow before after status (told.ReadFault file) s cause files device design e first second n h = absurd (no_read_fault flow before after files file device design e first second n cause h)
 by_report flow before after status (told.WriteFault file) s cause files device design e first second n h = absurd (n.write cause)
 by_report flow before after status told.OutOfMemory s cause files device design e first second n h = subst (IsStatusOn device design) (sym s) tt

@@ -56,8 +56,24 @@ refusal_run flow before after (told.ReadFault file) status e p same write counts
   tells = says;
   counts = counts;
 }
-refusal_run flow before after (told.TooFewBels kind cells bels) status e p same write counts cause says = absurd cause
-refusal_run flow before after (told.NoSite cell) status e p same write counts cause says = absurd cause
+refusal_run flow before after (told.TooFewBels kind cells bels) status e p same write counts cause says = record {
+  report = told.TooFewBels kind cells bels;
+  is_status = subst (IsStatusOf (told.TooFewBels kind cells bels) before after) (sym e) (refl, p);
+  taken = λ h. cc;
+  cause = tt;
+  kept = (same, write);
+  tells = says;
+  counts = counts;
+}
+refusal_run flow before after (told.NoSite cell) status e p same write counts cause says = record {
+  report = told.NoSite cell;
+  is_status = subst (IsStatusOf (told.NoSite cell) before after) (sym e) (refl, p);
+  taken = λ h. cc;
+  cause = tt;
+  kept = (same, write);
+  tells = says;
+  counts = counts;
+}
 refusal_run flow before after told.Usage status e p same write counts cause says = absurd cause
 refusal_run flow before after (told.Implemented cells clusters nets pips trial rounds) status e p same write counts cause says = absurd cause
 refusal_run flow before after (told.WriteFault file) status e p same write counts cause says = absurd cause

@@ -20,9 +20,9 @@ use Rattle.ix_flow.specs.Run.{Answers}
 use Rattle.ix_flow.specs.Steps.{IsContent, IsReady, Refuses, IsJudged, TellsRefusal, IsCaused, IsPrepared}
 
 -- what is told of a netlist that was written
-pub written_is : (d n : Result Segments Rule) (b : List ℕ) (r : Report) → IsAnswerOf d n (Written b r) → r ≡ implemented 0 0
+pub written_is : (d n : Result Segments Rule) (b : List ℕ) (r : Report) → IsAnswerOf d n (Written b r) → (cells : ℕ) × (sites : ℕ) × (r ≡ implemented cells sites)
 written_is (Err rule) n b r h = cc
-written_is (Ok all) n b r h = h.told
+written_is (Ok all) n b r h = (length h.placed.from_design.cells, length h.placed.phys.site_insts, h.told)
 
 -- what was read of a file opens as the file does
 content_opens : (files : Files) (name : List ℕ) (content : Content) → IsContent (Some files) name content → (bytes : List ℕ) × (files name ≡ Some bytes) × (opened bytes ≡ opened_content content)
@@ -48,8 +48,8 @@ refused : (report : Report) (a : Answer) (files : Files) (flow : Flow) → Answe
 refused (told.Bad file rule place) a files flow h r = subst (Answers files flow) r h
 refused (told.NotBuilt file) a files flow h r = subst (Answers files flow) r h
 refused told.TooLong a files flow h r = subst (Answers files flow) r h
-refused (told.TooFewBels kind cells bels) a files flow h r = absurd r
-refused (told.NoSite cell) a files flow h r = absurd r
+refused (told.TooFewBels kind cells bels) a files flow h r = subst (Answers files flow) r h
+refused (told.NoSite cell) a files flow h r = subst (Answers files flow) r h
 refused told.Usage a files flow h r = absurd r
 refused (told.Implemented cells clusters nets pips trial rounds) a files flow h r = absurd r
 refused (told.ReadFault file) a files flow h r = absurd r
@@ -60,8 +60,8 @@ caused : (report : Report) (a : Answer) (files : Option Files) (before now : ℕ
 caused (told.Bad file rule place) a files before now r = tt
 caused (told.NotBuilt file) a files before now r = tt
 caused told.TooLong a files before now r = tt
-caused (told.TooFewBels kind cells bels) a files before now r = absurd r
-caused (told.NoSite cell) a files before now r = absurd r
+caused (told.TooFewBels kind cells bels) a files before now r = tt
+caused (told.NoSite cell) a files before now r = tt
 caused told.Usage a files before now r = absurd r
 caused (told.Implemented cells clusters nets pips trial rounds) a files before now r = absurd r
 caused (told.ReadFault file) a files before now r = absurd r
@@ -79,11 +79,11 @@ prepared flow files before now device design (Ready job) d n j =
 -- a job whose parts are those of the answer is ready for it
 pub ready : (flow : Flow) (d n : Result Segments Rule) (b : List ℕ) (r : Report) (file : List ℕ) (job : Job) → IsAnswerOf d n (Written b r)
     → job.bytes ≡ b → job.done.report ≡ r → job.fault.report ≡ told.WriteFault file → file ≡ flow.routed → IsReady flow (Written b r) job
-ready flow d n b r file job h same_bytes same_report fault routed = record {
+ready flow d n b r file job h same_bytes same_report fault routed = let w = written_is d n b r h in record {
   answered = ap (λ (x : List ℕ). Written x r) (sym same_bytes) ∙ ap (Written job.bytes) (sym same_report);
-  cells = 0;
-  sites = 0;
-  report = same_report ∙ written_is d n b r h;
+  cells = w.0;
+  sites = w.1;
+  report = same_report ∙ w.2;
   fault = fault ∙ ap told.WriteFault routed;
 }
 

@@ -1,5 +1,5 @@
-pub mod Walks
 pub mod Judging
 pub mod Ending
 pub mod Complete
 pub mod Answering
+pub mod MoreNames

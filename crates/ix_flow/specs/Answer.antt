@@ -1,9 +1,10 @@
 -- What the program answers to the bytes of its two files, where nothing fails and memory doesn't run out.
-use Rattle.std.specs.Prelude.{◌≡◌, ◌⊎◌, ℕ, ◌^◌, true, false, nat_lt, List, [], length, Result, Ok, Err, None, if◌then◌else◌}
+use Rattle.std.specs.Prelude.{◌≡◌, ◌⊎◌, ℕ, ◌^◌, true, false, nat_lt, List, length, map, slice_get, Result, Ok, Err, Some, None, if◌then◌else◌}
 use Rattle.ix_num.specs.declared.fault.FrameFault.{FrameFault}
 use Rattle.ix_num.specs.declared.fault.FrameRule.{FrameRule}
 use Rattle.ix_num.specs.declared.fault.FrameRule.TheVariants as framed_rule
 use Rattle.ix_rec.specs.declared.device.DeviceRec.{DeviceRec}
+use Rattle.ix_rec.specs.declared.phys.Phys.{Phys}
 use Rattle.ix_rec.specs.declared.place.Rule.{Rule}
 use Rattle.ix_rec.specs.declared.place.Rule.TheVariants.{F1, F2, F3, F4, F5, F6, F7, F8, F9, I1}
 use Rattle.ix_rec.specs.declared.place.File.TheVariants.{Device, Design}
@@ -12,23 +13,28 @@ use Rattle.ix_rec.specs.declared.place.Place.TheVariants as places
 use Rattle.ix_report.specs.declared.report.Report as reports
 use Rattle.ix_report.specs.declared.report.Report.TheVariants.{Implemented}
 use Rattle.ix_frame.specs.Segments.{Segments, segments}
-use Rattle.ix_strings.specs.Names.{AllDiffer}
+use Rattle.ix_strings.specs.Names.{AllDiffer, KeepsNumbers}
 use Rattle.ix_message.specs.Shape.{Text, Value}
 use Rattle.ix_message.specs.Names.{Datum}
 use Rattle.ix_message.specs.Indexes.{Item}
 use Rattle.ix_message.specs.Message.{frame, out_of_list, reading, encoding, is_too_long}
 use Rattle.ix_message.specs.Device.{device}
 use Rattle.ix_message.specs.Phys.{phys_netlist}
-use Rattle.ix_device_read.specs.Numbers.{name_text}
 use Rattle.ix_device_read.specs.Records.{device_record}
 use Rattle.ix_device_read.specs.Reading.{reading_in_segments}
 use Rattle.ix_device_rules.specs.Broken.{IsBreach}
 use Rattle.ix_device_rules.specs.Rules.{first_broken}
 use Rattle.ix_flow.specs.declared.answer.Answer.{Answer}
-use Rattle.ix_flow.specs.declared.answer.Answer.TheVariants.{Broken, Unbuilt, TooLong, Written}
+use Rattle.ix_flow.specs.declared.answer.Answer.TheVariants.{Broken, Unbuilt, TooFewBels, NoSite, TooLong, Written}
 use Rattle.ix_flow.specs.declared.answer.Content.{Content}
 use Rattle.ix_flow.specs.declared.answer.Content.TheVariants as content
-use Rattle.ix_flow.specs.FirstForm.{is_empty_design}
+use Rattle.ix_phys_write.specs.Record.{phys_record}
+use Rattle.ix_first_form.specs.FirstForm.{is_first_form, cells_in}
+use Rattle.ix_first_form.specs.FirstCells.{cell_seen, AreFirst}
+use Rattle.ix_first_fit.specs.declared.cell.Cell.{Cell}
+use Rattle.ix_first_fit.specs.Fit.{IsTooFew, IsStuck}
+use Rattle.ix_first_fit.specs.Answers.{IsFitted}
+use Rattle.ix_first_fit.specs.Laws.{HasOwnPlaces}
 
 -- a frame's rule as a rule of the program
 abbrev pub rule_of : FrameRule → Rule
@@ -83,42 +89,71 @@ pub record BreaksRule (all : Segments) (rule : Rule) (place : Place) : Type 0 wh
 abbrev pub BreaksDevice : Segments → Rule → Place → Type 0
 BreaksDevice all rule place = BreaksFrame all rule place ⊎ BreaksIndex all rule place ⊎ BreaksRule all rule place
 
--- a design in first form without instances, and one that isn't
-abbrev pub EmptyDesign : Result Segments Rule → Type 0
-EmptyDesign design = (all : Segments) × (design ≡ Ok all) × (is_empty_design all ≡ true)
+-- A design in first form for a device, with its cells. Their names and types are among more names, in which those of the
+-- device have kept their numbers.
+pub record FirstDesign {all : Segments} (d : ValidDevice all) (design : Result Segments Rule) : Type 0 where
+  pub segments_are : Segments
+  pub opened_so : design ≡ Ok segments_are
+  pub in_form : is_first_form d.names d.rec segments_are ≡ true
+  pub names : List Text
+  pub keeps : KeepsNumbers d.names names
+  pub cells : List Cell
+  pub cells_are : map (cell_seen names) cells ≡ cells_in segments_are
+  pub first : AreFirst d.rec names cells
 
-abbrev pub UnbuiltDesign : Result Segments Rule → Type 0
-UnbuiltDesign design = (all : Segments) × (design ≡ Ok all) × (is_empty_design all ≡ false)
-
--- The netlist of a device and a design without cells: the device's name; no placements, nets, site instances or
--- properties.
-abbrev pub netlist_for : Text → Value Datum phys_netlist
-netlist_for part = ([], (part, ([], ([], ([], ([], tt))))))
-
-abbrev pub netlist_of : {all : Segments} → ValidDevice all → Value Datum phys_netlist
-netlist_of d = netlist_for (name_text d.names d.rec.name)
+abbrev pub UnbuiltDesign : {all : Segments} → ValidDevice all → Result Segments Rule → Type 0
+UnbuiltDesign d design = (all : Segments) × (design ≡ Ok all) × (is_first_form d.names d.rec all ≡ false)
 
 -- what is told of a design of so many cells on so many sites, without nets
 abbrev pub implemented : (cells sites : ℕ) → reports.Report
 implemented cells sites = Implemented cells sites 0 0 1 1
 
+-- The cells of a design are placed on a device by first fit, and this is their netlist: each cell is on a BEL of its own that
+-- admits its type, and each used site has one instance.
+pub record IsPlaced (all : Segments) (design : Result Segments Rule) : Type 0 where
+  pub from_device : ValidDevice all
+  pub from_design : FirstDesign from_device design
+  pub phys : Phys
+  pub fitted : IsFitted from_device.rec from_design.cells phys
+  pub own : HasOwnPlaces from_device.rec from_design.cells phys
+
+abbrev pub netlist_of : {all : Segments} {design : Result Segments Rule} → IsPlaced all design → Value Datum phys_netlist
+netlist_of p = phys_record p.from_design.names p.phys
+
 -- The netlist is written: its file is its encoding, which reads again as the netlist, and has fewer than 2^27 words.
 pub record IsWritten (all : Segments) (design : Result Segments Rule) (bytes : List ℕ) (report : reports.Report) : Type 0 where
+  pub placed : IsPlaced all design
+  pub fits : is_too_long phys_netlist (netlist_of placed) ≡ false
+  pub encoded : bytes ≡ encoding phys_netlist (netlist_of placed)
+  pub decodes : reading phys_netlist bytes ≡ Ok (netlist_of placed)
+  pub told : report ≡ implemented (length placed.from_design.cells) (length placed.phys.site_insts)
+
+-- a type of the design has more cells than the BELs that admit it
+pub record HasTooFew (all : Segments) (design : Result Segments Rule) (kind : Text) (cells bels : ℕ) : Type 0 where
   pub from_device : ValidDevice all
-  pub from_design : EmptyDesign design
-  pub fits : is_too_long phys_netlist (netlist_of from_device) ≡ false
-  pub encoded : bytes ≡ encoding phys_netlist (netlist_of from_device)
-  pub decodes : reading phys_netlist bytes ≡ Ok (netlist_of from_device)
-  pub told : report ≡ implemented 0 0
+  pub from_design : FirstDesign from_device design
+  pub type_id : ℕ
+  pub too_few : IsTooFew from_device.rec from_design.cells type_id cells bels
+  pub type_is : slice_get from_design.names type_id ≡ Some kind
+
+-- first fit stops at a cell of the design
+pub record HasNoSite (all : Segments) (design : Result Segments Rule) (cell : Text) : Type 0 where
+  pub from_device : ValidDevice all
+  pub from_design : FirstDesign from_device design
+  pub place : ℕ
+  pub stuck : IsStuck from_device.rec from_design.cells place
+  pub cell_is : slice_get from_design.names stuck.cell.name ≡ Some cell
 
 -- the answer where the device file has these segments
 abbrev pub IsAnswerOn : Segments → (design : Result Segments Rule) → Answer → Type 0
 IsAnswerOn all design (Broken Device rule place) = BreaksDevice all rule place
 IsAnswerOn all design (Broken Design rule place) = ValidDevice all × (design ≡ Err rule) × (place ≡ places.File)
 IsAnswerOn all design (Broken file rule place) = ⊥
-IsAnswerOn all design (Unbuilt Design) = ValidDevice all × UnbuiltDesign design
+IsAnswerOn all design (Unbuilt Design) = (d : ValidDevice all) × UnbuiltDesign d design
 IsAnswerOn all design (Unbuilt file) = ⊥
-IsAnswerOn all design TooLong = (d : ValidDevice all) × EmptyDesign design × (is_too_long phys_netlist (netlist_of d) ≡ true)
+IsAnswerOn all design (TooFewBels kind cells bels) = HasTooFew all design kind cells bels
+IsAnswerOn all design (NoSite cell) = HasNoSite all design cell
+IsAnswerOn all design TooLong = (p : IsPlaced all design) × (is_too_long phys_netlist (netlist_of p) ≡ true)
 IsAnswerOn all design (Written bytes report) = IsWritten all design bytes report
 
 -- The device is judged before the design.

@@ -6,7 +6,7 @@ use Rattle.ix_report.specs.Lines.{line_of}
 use Rattle.ix_report.specs.declared.report.Report as reports
 use Rattle.ix_report.specs.declared.report.Report.TheVariants as told
 use Rattle.ix_flow.specs.declared.answer.Answer.{Answer}
-use Rattle.ix_flow.specs.declared.answer.Answer.TheVariants.{Broken, Unbuilt, TooLong, Written}
+use Rattle.ix_flow.specs.declared.answer.Answer.TheVariants.{Broken, Unbuilt, TooFewBels, NoSite, TooLong, Written}
 use Rattle.ix_flow.specs.declared.status.Status.{Status}
 use Rattle.ix_flow.specs.declared.status.Status.TheVariants as stat
 use Rattle.ix_flow.specs.Words.{Flow}
@@ -84,8 +84,8 @@ Tells told.Usage flow files after = ⊥
 Tells (told.Bad file rule place) flow files after = Answers files flow (Broken file rule place)
 Tells (told.NotBuilt file) flow files after = Answers files flow (Unbuilt file)
 Tells told.TooLong flow files after = Answers files flow TooLong
-Tells (told.TooFewBels kind cells bels) flow files after = ⊥
-Tells (told.NoSite cell) flow files after = ⊥
+Tells (told.TooFewBels kind cells bels) flow files after = Answers files flow (TooFewBels kind cells bels)
+Tells (told.NoSite cell) flow files after = Answers files flow (NoSite cell)
 Tells (told.ReadFault file) flow files after = IsFirstUnread flow files file
 Tells (told.WriteFault file) flow files after =
     (file ≡ flow.routed) × (bytes : List ℕ) × (report : reports.Report) × Answers files flow (Written bytes report) × LeavesPrefix flow.routed bytes (Some files) after
@@ -127,6 +127,8 @@ abbrev pub IsStatusFor : Answer → Status → Type 0
 IsStatusFor (Broken file rule place) status = status ≡ stat.Bad file rule place
 IsStatusFor (Unbuilt file) status = status ≡ stat.NotBuilt file
 IsStatusFor TooLong status = status ≡ stat.TooLong
+IsStatusFor (TooFewBels kind cells bels) status = status ≡ stat.TooFewBels kind cells bels
+IsStatusFor (NoSite cell) status = status ≡ stat.NoSite cell
 IsStatusFor (Written bytes report) status = status ≡ stat.Done
 
 -- The status is that of an answer to the inputs; or want of memory, which may come at any time.

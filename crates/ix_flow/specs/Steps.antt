@@ -6,7 +6,7 @@ use Rattle.ix_shelf.specs.Shelf.{Files, Rose, IsAbsent}
 use Rattle.ix_report.specs.declared.report.Report as reports
 use Rattle.ix_report.specs.declared.report.Report.TheVariants as told
 use Rattle.ix_flow.specs.declared.answer.Answer.{Answer}
-use Rattle.ix_flow.specs.declared.answer.Answer.TheVariants.{Broken, Unbuilt, TooLong, Written}
+use Rattle.ix_flow.specs.declared.answer.Answer.TheVariants.{Broken, Unbuilt, TooFewBels, NoSite, TooLong, Written}
 use Rattle.ix_flow.specs.declared.answer.Content.{Content}
 use Rattle.ix_flow.specs.declared.answer.Content.TheVariants as content
 use Rattle.ix_flow.specs.declared.job.Job.{Job}
@@ -35,6 +35,8 @@ abbrev pub Refuses : reports.Report → Answer → Type 0
 Refuses (told.Bad file rule place) a = a ≡ Broken file rule place
 Refuses (told.NotBuilt file) a = a ≡ Unbuilt file
 Refuses told.TooLong a = a ≡ TooLong
+Refuses (told.TooFewBels kind cells bels) a = a ≡ TooFewBels kind cells bels
+Refuses (told.NoSite cell) a = a ≡ NoSite cell
 Refuses report a = ⊥
 
 -- what has to be done after the inputs were judged
@@ -50,6 +52,8 @@ abbrev pub TellsRefusal : reports.Report → Flow → Files → Type 0
 TellsRefusal (told.Bad file rule place) flow files = Answers files flow (Broken file rule place)
 TellsRefusal (told.NotBuilt file) flow files = Answers files flow (Unbuilt file)
 TellsRefusal told.TooLong flow files = Answers files flow TooLong
+TellsRefusal (told.TooFewBels kind cells bels) flow files = Answers files flow (TooFewBels kind cells bels)
+TellsRefusal (told.NoSite cell) flow files = Answers files flow (NoSite cell)
 TellsRefusal (told.ReadFault file) flow files = IsFirstUnread flow files file
 TellsRefusal report flow files = ⊥
 
@@ -60,8 +64,6 @@ IsCaused told.Usage files before now = ⊥
 IsCaused (told.WriteFault file) files before now = ⊥
 IsCaused (told.Implemented cells clusters nets pips trial rounds) files before now = ⊥
 IsCaused told.OutOfMemory files before now = ⊥
-IsCaused (told.TooFewBels kind cells bels) files before now = ⊥
-IsCaused (told.NoSite cell) files before now = ⊥
 IsCaused report files before now = Unit {0}
 
 -- A job is ready for the answer to the files, where the shelf tells them.

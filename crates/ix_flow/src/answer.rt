@@ -1,26 +1,30 @@
 //! The answer to the bytes of a device and a design.
 
-ghost use Rattle.std.specs.Prelude.{◌≡◌, ◌<◌, Ok, IfOk, [], length};
+ghost use Rattle.std.specs.Prelude.{◌≡◌, ◌+◌, ◌-◌, ◌^◌, ◌<◌, ◌≤◌, Ok, Some, IfOk, [], length, slice_get};
 ghost use Rattle.ix_frame.specs.Result.{Finds};
 ghost use Rattle.ix_frame.specs.Views.{segments_of};
 ghost use Rattle.ix_frame.specs.Segments.{Segments};
 ghost use Rattle.ix_message.specs.Device.{device};
 ghost use Rattle.ix_device_read.specs.Reading.{reading_in_segments, Refuses};
 ghost use Rattle.ix_device_read.specs.Named.{DeviceNamed};
-ghost use Rattle.ix_device_read.specs.Numbers.{name_text};
 ghost use Rattle.ix_device_read.specs.Records.{device_record};
 ghost use Rattle.ix_rec.specs.Ranges.{IndexesFit};
-ghost use Rattle.ix_flow.specs.Answer.{rule_of, opened, opened_content, netlist_for, implemented, IsAnswerOn, IsAnswerOf};
-ghost use Rattle.ix_flow.specs.Judged.{IsDeviceOf, IsJudgedSo, IsNetlistOf, without_cells};
+ghost use Rattle.ix_flow.specs.Answer.{rule_of, opened, opened_content, implemented, IsAnswerOn, IsAnswerOf};
+ghost use Rattle.ix_first_fit.specs.Answers.{IsFitFault};
+ghost use Rattle.ix_flow.specs.Judged.{IsDeviceOf, IsJudgedSo, IsFileOf, IsFaultNamed, IsCellAnswer};
+ghost use Rattle.ix_phys_write.specs.Record.{IsPhysNamed};
+ghost use Rattle.ix_first_fit.specs.Named.{CellNamed};
+ghost use Rattle.std.specs.List.{AllByRecursion};
 
-use crate::first_form::is_empty_design;
 use ix_capw::BuildFault;
 use ix_device::{Device, DeviceFault};
 use ix_device_read::read_device;
+use ix_first_fit::{Cell, FitFault, first_fit};
+use ix_first_form::read_first_form;
 use ix_frame::Frame;
 use ix_num::{FrameRule, Memory, NameId};
 use ix_phys_write::write_phys;
-use ix_rec::{Bytes, DeviceRec, File, Items, Phys, Place, ReadFault, Rule};
+use ix_rec::{Bytes, DeviceRec, File, Items, Phys, Place, ReadFault, Rule, Word};
 use ix_report::Report;
 use ix_shelf::MOST_BYTES;
 use ix_strings::Names;
@@ -49,6 +53,20 @@ pub enum Answer {
     },
     /// The file is valid so far, and has parts that the program can't handle yet.
     Unbuilt(File),
+    /// A type has more cells than the BELs that admit it.
+    TooFewBels {
+        /// The cell type.
+        kind: Word,
+        /// How many cells of the type the design has.
+        cells: u64,
+        /// How many BELs of the device's sites admit it.
+        bels: u64,
+    },
+    /// A cell finds no place.
+    NoSite {
+        /// The cell.
+        cell: Word,
+    },
     /// The netlist would have 2^27 words or more.
     TooLong,
     /// The netlist, and the report of the job.
@@ -150,7 +168,8 @@ fn check_device(alloc: Global, rec: DeviceRec, names: &Names) -> Result<Judged, 
 /// Reads a device, whose names are added to the names, and asks its rules. `Memory` is its only error.
 fn judge_device(alloc: Global, frame: &Frame<'_>, names: &mut Names) -> Result<Judged, Memory>
     requires { names.old ≡ [] }
-    ensures { IfOk result (IsJudgedSo (segments_of frame.now) names.new) }
+    ensures judged { IfOk result (IsJudgedSo (segments_of frame.now) names.new) }
+    ensures few { length names.new ≤ 2 ^ 28 + 66 }
 {
     match read_device(alloc, frame, names) {
         Ok(rec) => check_device(alloc, rec, names),
@@ -158,26 +177,13 @@ fn judge_device(alloc: Global, frame: &Frame<'_>, names: &mut Names) -> Result<J
     }
 }
 
-// The netlist of a device and a design without cells.
-fn netlist_without_cells(alloc: Global, part: NameId) -> Phys
-    ensures { result ≡ without_cells part }
-{
-    Phys {
-        part,
-        placements: Items::new(alloc),
-        nets: Items::new(alloc),
-        site_insts: Items::new(alloc),
-        properties: Items::new(alloc),
-    }
-}
-
-// What is told of a device and a design without cells.
-fn nothing_implemented() -> Report
-    ensures { result ≡ implemented 0 0 }
+// What is told of so many cells on so many sites, without nets.
+fn implemented(cells: u32, sites: u32) -> Report
+    ensures { result ≡ implemented cells sites }
 {
     Report::Implemented {
-        cells: 0,
-        clusters: 0,
+        cells,
+        clusters: sites,
         nets: 0,
         pips: 0,
         trial: 1,
@@ -185,19 +191,79 @@ fn nothing_implemented() -> Report
     }
 }
 
-// Writes the netlist of a device and a design without cells. `Memory` is its only error.
-fn written(alloc: Global, part: NameId, names: &Names) -> Result<Answer, Memory>
-    requires { part < length names.now }
-    ensures { IfOk result (IsNetlistOf (netlist_for (name_text names.now part))) }
+// The file of a netlist of so many cells. `Memory` is its only error.
+fn written(alloc: Global, phys: &Phys, names: &Names, cells: usize) -> Result<Answer, Memory>
+    requires { IsPhysNamed names.now phys.now }
+    ensures { IfOk result (IsFileOf names.now phys.now cells) }
 {
-    let phys = netlist_without_cells(alloc, part);
-    match write_phys(alloc, &phys, names) {
+    let cells = number_of(cells)?;
+    let sites = number_of(phys.site_insts.len())?;
+    match write_phys(alloc, phys, names) {
         Ok(bytes) => Ok(Answer::Written {
             bytes: Bytes::new(bytes),
-            report: nothing_implemented(),
+            report: implemented(cells, sites),
         }),
         Err(BuildFault::TooLong) => Ok(Answer::TooLong),
         Err(BuildFault::Memory) => Err(Memory),
+    }
+}
+
+// A number of 32 bits; want of memory is answered past them.
+fn number_of(count: usize) -> Result<u32, Memory>
+    ensures { IfOk result (λ n. n ≡ count) }
+{
+    if count > u32::MAX as usize {
+        return Err(Memory);
+    }
+    Ok(count as u32)
+}
+
+// A name as a word of its own. `Memory` is its only error.
+fn word_of(alloc: Global, names: &Names, id: NameId) -> Result<Word, Memory>
+    requires { id < length names.now }
+    ensures { IfOk result (λ w. slice_get names.now id ≡ Some w) }
+{
+    Word::new(alloc, names.name(id))
+}
+
+// Why cells have no places. `Memory` is its only error.
+fn unplaced(
+    alloc: Global,
+    names: &Names,
+    cells: &Items<Cell>,
+    fault: FitFault,
+) -> Result<Answer, Memory>
+    requires cells { AllByRecursion (CellNamed (length names.now)) cells.now }
+    requires fault { IsFaultNamed names.now cells.now fault }
+    ensures { (rec : DeviceRec) → IsFitFault rec cells.now fault → IfOk result (IsCellAnswer rec names.now cells.now) }
+{
+    match fault {
+        FitFault::TooFewBels { kind, cells, bels } => Ok(Answer::TooFewBels {
+            kind: word_of(alloc, names, kind)?,
+            cells,
+            bels,
+        }),
+        FitFault::NoSite { cell } => Ok(Answer::NoSite {
+            cell: word_of(alloc, names, cells.at(cell as usize).name)?,
+        }),
+        FitFault::Memory => Err(Memory),
+    }
+}
+
+/// Places the cells of a design without nets, and writes their netlist. `Memory` is its only error.
+fn place_cells(
+    alloc: Global,
+    device: &Device,
+    names: &Names,
+    cells: &Items<Cell>,
+) -> Result<Answer, Memory>
+    requires named { DeviceNamed (length names.now) device.now }
+    requires cells { AllByRecursion (CellNamed (length names.now)) cells.now }
+    ensures { IfOk result (IsCellAnswer device.now names.now cells.now) }
+{
+    match first_fit(alloc, device, cells) {
+        Ok(phys) => written(alloc, &phys, names, cells.len()),
+        Err(fault) => unplaced(alloc, names, cells, fault),
     }
 }
 
@@ -205,20 +271,22 @@ fn written(alloc: Global, part: NameId, names: &Names) -> Result<Answer, Memory>
 fn answer_on(
     alloc: Global,
     device: &Device,
-    names: &Names,
+    names: &mut Names,
     design: &Content,
 ) -> Result<Answer, Memory>
-    requires { DeviceNamed (length names.now) device.now }
-    ensures { (all : Segments) → IsDeviceOf all names.now device.now → IfOk result (IsAnswerOn all (opened_content design.now)) }
+    requires room { length names.old + 2 ^ 22 < 2 ^ 32 - 1 }
+    requires named { DeviceNamed (length names.old) device.now }
+    ensures { (all : Segments) → IsDeviceOf all names.old device.now → IfOk result (IsAnswerOn all (opened_content design.now)) }
 {
     let design = match opened_content(design) {
         Ok(frame) => frame,
         Err(rule) => return Ok(broken(File::Design, rule)),
     };
-    if !is_empty_design(&design) {
-        return Ok(Answer::Unbuilt(File::Design));
+    match read_first_form(alloc, &design, device, names) {
+        Ok(Some(cells)) => place_cells(alloc, device, names, &cells),
+        Ok(None) => Ok(Answer::Unbuilt(File::Design)),
+        Err(_) => Err(Memory),
     }
-    written(alloc, device.rec().name, names)
 }
 
 /// The answer to two files: the device is judged before the design. `Memory` is its only error.
@@ -237,6 +305,6 @@ pub(crate) fn answer_to(alloc: Global, device: &Content, design: &Content) -> Re
             rule,
             place,
         }),
-        Ok(Judged::Valid(device)) => answer_on(alloc, &device, &names, design),
+        Ok(Judged::Valid(device)) => answer_on(alloc, &device, &mut names, design),
     }
 }

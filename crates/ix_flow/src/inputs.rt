@@ -55,6 +55,14 @@ fn judged(
             let told = with_line(alloc, Report::NotBuilt(file))?;
             Ok(Prepared::Refused(told))
         }
+        Answer::TooFewBels { kind, cells, bels } => {
+            let told = with_line(alloc, Report::TooFewBels { kind, cells, bels })?;
+            Ok(Prepared::Refused(told))
+        }
+        Answer::NoSite { cell } => {
+            let told = with_line(alloc, Report::NoSite { cell })?;
+            Ok(Prepared::Refused(told))
+        }
         Answer::TooLong => {
             let told = with_line(alloc, Report::TooLong)?;
             Ok(Prepared::Refused(told))

@@ -2,7 +2,6 @@
 #![tactic(auto)]
 
 mod answer;
-mod first_form;
 mod inputs;
 mod job;
 mod program;

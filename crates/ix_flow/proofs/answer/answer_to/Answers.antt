@@ -8,4 +8,4 @@ use Rattle.ix_flow.proofs.answer.answer_to.Goals as goal
 pub returns : goal.returns
 returns c =
     opened_as (segments_of c.in-Ok.frame) (opened_content c.args.device.now) (opened_content c.args.design.now) c.answer_on.result c.in-Ok.ensures
-    (c.answer_on.ensures (segments_of c.in-Ok.frame) (subst (IsJudgedSo (segments_of c.in-Ok.frame) c.judge_device.new.names) c.in-Ok-Valid.field-0-is c.in-Ok-Valid.ensures))
+    (c.answer_on.ensures (segments_of c.in-Ok.frame) (subst (IsJudgedSo (segments_of c.in-Ok.frame) c.judge_device.new.names) c.in-Ok-Valid.field-0-is c.in-Ok-Valid.ensures.judged))

@@ -9,8 +9,10 @@
 # how the one that was measured was made. GENERATOR is a Python program that writes a valid device: its words are how many
 # logic tiles and how many pads there are, and the file. Each command runs RUNS times (9).
 #
-# The peak of reading and checking less that of reading alone is what checking takes at most: its tables while rules are
-# asked, or the look-ups that stay. It is told by tile wire: a logic tile has 42 wires and a pad 2, and each has every line.
+# Told are the medians of the printed times, and the processor time and the peak memory of the whole program and of reading
+# alone. Their difference is what checking takes at most: its tables while rules are asked, or the look-ups that stay. It is
+# told by tile wire too, where the device is large enough to show: a logic tile has 42 wires and a pad 2, and each has every
+# line.
 set -eu
 here=$(cd "$(dirname "$0")" && pwd)
 usage='usage: bench/check_device.sh CHECKER GENERATOR [RUNS]'
@@ -21,26 +23,20 @@ work=$(mktemp -d)
 trap 'rm -rf "$work"' EXIT
 cd "$work"
 
-told() { # WORD COMMAND..: the median of the times that the program prints behind WORD, in seconds
-    word=$1
-    shift
-    for _ in $(seq "$runs"); do "$@"; done | grep -o "$word [0-9]*" | cut -d' ' -f2 | sort -n |
+middle() { # WORD: the median of the times that stand behind WORD in `times`, in seconds
+    grep -o "$1 [0-9]*" times | cut -d' ' -f2 | sort -n |
         awk '{ t[NR] = $1 } END { printf "%.4f", t[int((NR + 1) / 2)] / 1e6 }'
-}
-
-peak() { # COMMAND..: its peak memory, in MiB
-    python3 "$here/measure.py" 1 0 "$@" | cut -d' ' -f4
 }
 
 measure() { # NAME COMMAND..
     name=$1
     shift
-    read=$(told read "$@" device)
-    checked=$(told checked "$@" device)
-    whole=$(peak "$@" device)
-    alone=$(peak "$@" device read)
+    for _ in $(seq "$runs"); do "$@" device; done >times
+    read -r _ _ busy whole < <(python3 "$here/measure.py" "$runs" 0 "$@" device)
+    read -r _ _ idle alone < <(python3 "$here/measure.py" "$runs" 0 "$@" device read)
+    busy=$(awk "BEGIN { printf \"%.3f\", $busy - $idle }")
     each=$(awk "BEGIN { printf \"%.0f\", ($whole - $alone) * 1048576 / $tile_wires }")
-    printf '%-16s %9s %9s %9s %9s %9s\n' "$name" "$read" "$checked" "$whole" "$alone" "$each"
+    printf '%-16s %9s %9s %9s %9s %9s %9s\n' "$name" "$(middle read)" "$(middle checked)" "$busy" "$whole" "$alone" "$each"
 }
 
 rustc --edition 2024 -O -A dead_code -o check_device "$here/check_device.rs"
@@ -50,7 +46,7 @@ for size in '1 0' '1 2' '16 3' '48 7' '192 25' '768 100'; do
     lines=$((12 * tiles + pads + 2))
     tile_wires=$((tiles * (42 + lines) + pads * (2 + lines)))
     echo "$tiles logic tiles, $pads pads: $(stat -c %s device) bytes, $tile_wires tile wires; load $(cut -d' ' -f1 /proc/loadavg)"
-    printf '%-16s %9s %9s %9s %9s %9s\n' command 'read s' 'checked s' 'peak MiB' 'read MiB' 'B a wire'
+    printf '%-16s %9s %9s %9s %9s %9s %9s\n' command 'read s' 'checked s' 'cpu s' 'peak MiB' 'read MiB' 'B a wire'
     measure 'Device::check' "$checker"
     measure 'plain Rust' ./check_device
 done

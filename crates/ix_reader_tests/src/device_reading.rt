@@ -14,7 +14,7 @@ use std::process::Abort;
 use std::test::Fail;
 
 /// The most bytes that a frame may have.
-const MOST_BYTES: usize = 1 << 30;
+pub const MOST_BYTES: usize = 1 << 30;
 
 /// Writes the rule that a file breaks, and where.
 fn put_fault(text: &mut String, fault: &ReadFault) -> Result<(), AllocError> {
@@ -53,7 +53,7 @@ fn read_words(alloc: Global, bytes: &[u8], names: &mut Names) -> Result<String, 
 }
 
 /// Changes a byte, where it is there.
-fn set_byte(bytes: &mut Vec<u8>, (at, byte): (usize, u8)) {
+pub fn set_byte(bytes: &mut Vec<u8>, (at, byte): (usize, u8)) {
     if at < bytes.len() {
         bytes[at] = byte;
     }

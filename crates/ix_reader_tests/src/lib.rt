@@ -11,4 +11,8 @@ mod device_reading;
 #[cfg(test)]
 mod device_text;
 #[cfg(test)]
+mod rule_cases;
+#[cfg(test)]
+mod rules;
+#[cfg(test)]
 mod texts;

@@ -1,5 +1,5 @@
 -- From what the code has to the answer.
-use Rattle.std.proofs.Common.{◌≡◌, ◌∙◌, ◌<◌, ◌≤◌, ap, sym, subst, ℕ, List, [], length, map, slice_get, Some, true, false, Result, Ok, Err, IfOk, IfSome, Option, None, Bool, nat_lt, refl}
+use Rattle.std.proofs.Common.{◌≡◌, ◌∙◌, ◌≤◌, ap, sym, subst, ℕ, List, [], length, map, slice_get, Some, true, false, Result, Ok, Err, IfOk, Bool, nat_lt, refl}
 use Rattle.std.proofs.Math.Nat.{not-suc-le_self}
 use borrow.Author.Tests.{ltb-true, ltb-false}
 use Rattle.std.proofs.lemmas.Option.{same_Some, slice_get_within, slice_get-get_or}

@@ -29,7 +29,7 @@ use Rattle.ix_rec.specs.declared.device.LutDefinitions.{LutDefinitions}
 use Rattle.ix_rec.specs.declared.device.DeviceRec.{DeviceRec}
 use Rattle.ix_rec.specs.declared.device.PackagePinSite.{PackagePinSite}
 use Rattle.ix_rec.specs.declared.device.PackagePinSite.TheVariants.{NoSite, Site as SiteOfName}
-use Rattle.ix_device_read.specs.Named.{AllNamed, PinSiteNamed, BelPinNamed, SitePinNamed, BelNamed, SiteWireNamed, SiteTypeNamed, SiteTypeInTileTypeNamed, TileTypeNamed, SiteNamed, TileNamed, WireNamed, SiteTypeBelEntryNamed, CellBelPinEntryNamed, CommonCellBelPinMapsNamed, CellBelMappingNamed, PackagePinNamed, PackageNamed, SiteConstantSourceNamed, NodeConstantSourceNamed, ConstantsNamed, LutCellNamed, LutBelNamed, LutElementNamed, SiteTypeLutElementsNamed, LutDefinitionsNamed, DeviceNamed}
+use Rattle.ix_device_read.specs.Named.{PinSiteNamed, BelPinNamed, SitePinNamed, BelNamed, SiteWireNamed, SiteTypeNamed, SiteTypeInTileTypeNamed, TileTypeNamed, SiteNamed, TileNamed, WireNamed, SiteTypeBelEntryNamed, CellBelPinEntryNamed, CommonCellBelPinMapsNamed, CellBelMappingNamed, PackagePinNamed, PackageNamed, SiteConstantSourceNamed, NodeConstantSourceNamed, ConstantsNamed, LutCellNamed, LutBelNamed, LutElementNamed, SiteTypeLutElementsNamed, LutDefinitionsNamed, DeviceNamed}
 
 all_more : {A : Type 0} {P Q : A → Type 0} → ((x : A) → P x → Q x) → (xs : List A) → AllByRecursion P xs → AllByRecursion Q xs
 all_more f [] h = tt

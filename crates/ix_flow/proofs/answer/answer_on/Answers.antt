@@ -1,8 +1,8 @@
-use Rattle.std.proofs.Common.{◌≡◌, ◌∙◌, ap, sym, subst, map, IfSome, Some, Option, List}
+use Rattle.std.proofs.Common.{◌≡◌, ◌∙◌, ap, sym, subst, map, IfSome, Option, List}
 use Rattle.std.specs.Option.{is_some}
 use Rattle.ix_frame.specs.Views.{segments_of}
 use Rattle.ix_first_fit.specs.declared.cell.Cell.{Cell}
-use Rattle.ix_first_form.specs.FirstForm.{is_first_form, cells_in}
+use Rattle.ix_first_form.specs.FirstForm.{cells_in}
 use Rattle.ix_first_form.specs.FirstCells.{cell_seen, AreFirst}
 use Rattle.ix_flow.specs.Answer.{opened_content}
 use Rattle.ix_flow.proofs.Answering.{still_named, answered, unbuilt}

@@ -9,8 +9,8 @@ ghost use Rattle.ix_first_form.specs.Design.{instance_at, instance_name};
 ghost use Rattle.ix_first_form.specs.Leaves.{leaf_type, IsLeaf, AreLeaves};
 ghost use Rattle.ix_first_form.specs.RawWords.{raw_fits};
 
-use ix_first_fit::Cell;
 use ix_first::FirstByKey;
+use ix_first_fit::Cell;
 use ix_keys::Key;
 use ix_logic_raw::RawNetlist;
 use ix_num::{Memory, NameId};

@@ -12,10 +12,10 @@ ghost use Rattle.ix_first_form.specs.RawWords.{raw_fits, raw_has_top_alone};
 
 use crate::bare::is_bare;
 use crate::cells::{add_cells, names_differ};
-use ix_first_fit::Cell;
 use crate::numbers::{has_no_nets, numbers_fit};
 use crate::types::{mapped_types, plain_types};
 use ix_device::Device;
+use ix_first_fit::Cell;
 use ix_frame::Frame;
 use ix_logic_raw::{RawCell, RawNetlist, read_raw_netlist};
 use ix_num::Memory;

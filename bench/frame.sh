@@ -1,5 +1,6 @@
 #!/usr/bin/env bash
-# Times `ixflow flow` on a long design of structs and texts against a plain Rust program that asks the same of it.
+# Times `ixflow flow` on a long design of structs and texts against a plain Rust program that walks it. `flow` keeps the
+# design's numbers besides.
 #
 # usage: bench/frame.sh IXFLOW [MEGABYTES] [RUNS]
 #

@@ -1,5 +1,5 @@
-//! Reads a device and a design, and asks of them what `ixflow flow` asks, in plain Rust over the standard library: the
-//! measure for the speed of the proved program. It writes nothing.
+//! Reads a device and a design, and walks them, in plain Rust over the standard library: a measure for the speed of the
+//! proved program. It asks only whether the device's root is zero and the design is without cells, and writes nothing.
 //!
 //! usage: walk DEVICE DESIGN
 

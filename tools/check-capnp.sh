@@ -78,6 +78,7 @@ design "instances that nothing uses" 0 "$done_line" <<'END'
 (name = "a name of more than a word", topInst = (name = 0, cell = 0), strList = ["top", "u0", "u1", "leaf"],
  cellDecls = [(name = 0), (name = 3)], instList = [(name = 1, cell = 1), (name = 2, cell = 1)], cellList = [(index = 0)])
 END
+# The device has no cell types, so a design with an instance in its top isn't in first form.
 design "a top with an instance" 9 "$unbuilt_line" <<'END'
 (name = "design", topInst = (name = 0, cell = 0), strList = ["top", "u0", "leaf"],
  cellDecls = [(name = 0), (name = 2)], instList = [(name = 1, cell = 1)], cellList = [(index = 0, insts = [0])])

@@ -178,13 +178,13 @@ def mapping_struct(strings, name, site_type, bels, pins):
     return Struct([number(name)], [[Struct([], [where, entries])]])
 
 
-def device(name, tiles):
-    """The bytes of a device of these tiles."""
+def device(name, tiles, cell_types):
+    """The bytes of a device of these tiles, which takes these cell types."""
     strings = Strings()
     site_types = [site_type_struct(strings, site_type) for site_type in SITE_TYPES]
     tile_types = [tile_type_struct(strings, *tile_type) for tile_type in TILE_TYPES.items()]
     tile_list = [tile_struct(strings, tile) for tile in tiles]
-    mappings = [mapping_struct(strings, *cell_type) for cell_type in CELL_TYPES]
+    mappings = [mapping_struct(strings, *cell_type) for cell_type in cell_types]
     # None: wires, nodes, primLibs, exceptionMap; then packages, constants, lutDefinitions
     return message(Struct([], [name, strings.table(), site_types, tile_types, tile_list, None, None, None, None,
                                mappings, None, None, None]))
@@ -218,7 +218,7 @@ def main():
     if len(sys.argv) != 3:
         sys.exit(__doc__)
     with open(sys.argv[1], "wb") as file:
-        file.write(device("first", TILES))
+        file.write(device("first", TILES, CELL_TYPES))
     with open(sys.argv[2], "wb") as file:
         file.write(design("counter", CELLS))
 

@@ -1,6 +1,7 @@
 #!/usr/bin/env bash
-# Lets Cap'n Proto's own encoder write designs, in one segment and in several, and lets ixflow read them. Segments with
-# pads of both kinds are made by split_segments.py, and read back by Cap'n Proto's decoder before ixflow sees them.
+# Lets Cap'n Proto's own encoder write designs and devices, in one segment and in several, and lets ixflow read them.
+# Segments with pads of both kinds are made by split_segments.py, and read back by Cap'n Proto's decoder before ixflow sees
+# them.
 #
 # usage: tools/check-capnp.sh [IXFLOW]
 #
@@ -17,6 +18,7 @@ if [ ! -x "$ixflow" ]; then
     [ -x "$ixflow" ] || { echo "check-capnp: ixflow can't be built"; exit 1; }
 fi
 schema=$top/examples/schema/netlist.capnp
+devices=$top/examples/schema/device.capnp
 split=$top/tools/split_segments.py
 work=$(mktemp -d) || exit 1
 trap 'rm -rf "$work"' EXIT
@@ -91,6 +93,47 @@ END
 design "a property" 9 "$unbuilt_line" <<'END'
 (strList = ["top", "key"], cellDecls = [(name = 0)], propMap = (entries = [(key = 1, tag = 1, value = 7)]))
 END
+
+# Encodes a device in many ways, and checks the line of each with the file `design`.
+device() { # NAME STATUS LINE, the message as text on standard input
+    cat >text
+    capnp encode "$devices" Device <text >device || { failed=$((failed + 1)); return; }
+    check "$1" "$2" "$3"
+    for words in 1 2 3 5 8 13; do
+        capnp encode --segment-size=$words "$devices" Device <text >device
+        check "$1, segments of $words words" "$2" "$3"
+    done
+}
+
+# A device of two tiles, each with a site that takes a driver on its one BEL.
+strings='"SRC", "O", "OB", "T", "t0", "s0", "DRV", "t1", "s1"'
+site_types='(name = 0, belPins = [(name = 1, dir = 1, bel = 2)], bels = [(name = 2, category = 0)])'
+tile_types='(name = 3, siteTypes = [(primaryType = 0)])'
+first_tile='(name = 4, type = 0, row = 0, col = 0, sites = [(name = 5, type = 0)])'
+maps='(cell = 6, commonPins = [(siteTypes = [(siteType = 0, bels = [2])], pins = [(cellPin = 1, belPin = 1)])])'
+drivers() { # NUMBER: a design of so many drivers without nets
+    local names="" instances="" places="" i
+    for ((i = 0; i < $1; i++)); do
+        names="$names, \"d$i\""
+        instances="$instances(name = $((i + 2)), cell = 1), "
+        places="$places$i, "
+    done
+    echo "(strList = [\"top\", \"DRV\"$names], topInst = (name = 0, cell = 0), cellDecls = [(name = 0), (name = 1)]," \
+        "instList = [${instances%, }], cellList = [(index = 0, insts = [${places%, }])])" |
+        capnp encode "$schema" Netlist >design
+}
+two_tiles() { # SECOND_TILE
+    echo "(name = \"part\", strList = [$strings], siteTypeList = [$site_types], tileTypeList = [$tile_types]," \
+        "tileList = [$first_tile, $1], cellBelMap = [$maps])"
+}
+second_tile='(name = 7, type = 0, row = 0, col = 1, sites = [(name = 8, type = 0)])'
+
+drivers 2
+device "two drivers on two sites" 0 "done: 2 cells, 2 clusters, 0 nets, 0 pips, trial 1, rounds 1" < <(two_tiles "$second_tile")
+device "two tiles of one name" 3 "device: M1 at Tile.name 1" < <(two_tiles "${second_tile/name = 7/name = 4}")
+device "a tile of a type that isn't there" 3 "device: I1 at Tile.type 1" < <(two_tiles "${second_tile/type = 0/type = 1}")
+drivers 3
+device "three drivers on two sites" 4 "too few bels: DRV needs 3 of 2" < <(two_tiles "$second_tile")
 
 if [ "$failed" -ne 0 ]; then
     echo "check-capnp: $failed of $checked checks failed"

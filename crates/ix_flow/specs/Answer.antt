@@ -20,6 +20,7 @@ use Rattle.ix_message.specs.Indexes.{Item}
 use Rattle.ix_message.specs.Message.{frame, out_of_list, reading, encoding, is_too_long}
 use Rattle.ix_message.specs.Device.{device}
 use Rattle.ix_message.specs.Phys.{phys_netlist}
+use Rattle.ix_device_read.specs.Named.{DeviceNamed}
 use Rattle.ix_device_read.specs.Records.{device_record}
 use Rattle.ix_device_read.specs.Reading.{reading_in_segments}
 use Rattle.ix_device_rules.specs.Broken.{IsBreach}
@@ -55,10 +56,12 @@ ruled (Err rule) = Err (rule_of rule)
 unfoldable pub opened : List ℕ → Result Segments Rule
 opened bytes = if nat_lt (2 ^ 30) (length bytes) then Err F9 else ruled (segments bytes)
 
--- A device that was read from segments. Its names are numbers of a table of names, in which no two are alike.
+-- A device that was read from segments. Its names are numbers of a table of names, in which no two are alike: so equal texts
+-- have equal numbers, the empty text too.
 pub record IsRead (all : Segments) (names : List Text) (rec : DeviceRec) : Type 0 where
   pub differ : AllDiffer names
   pub reads : reading_in_segments device all ≡ Ok (device_record names rec)
+  pub named : DeviceNamed (length names) rec
 
 -- a device that was read and breaks no rule
 pub record ValidDevice (all : Segments) : Type 0 where

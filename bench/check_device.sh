@@ -14,14 +14,11 @@
 # told by tile wire too, where the device is large enough to show: a logic tile has 42 wires and a pad 2, and each has every
 # line.
 set -eu
-here=$(cd "$(dirname "$0")" && pwd)
 usage='usage: bench/check_device.sh CHECKER GENERATOR [RUNS]'
 checker=$(realpath "${1:?$usage}")
 generator=$(realpath "${2:?$usage}")
 runs=${3:-9}
-work=$(mktemp -d)
-trap 'rm -rf "$work"' EXIT
-cd "$work"
+source "$(dirname "${BASH_SOURCE[0]}")/common.sh"
 
 middle() { # WORD: the median of the times that stand behind WORD in `times`, in seconds
     grep -o "$1 [0-9]*" times | cut -d' ' -f2 | sort -n |

@@ -7,13 +7,10 @@
 # The device is one segment of MIB MiB (256 where none is given) whose root pointer is zero, so that `flow` reads the file
 # to its end and has nothing else to do with it. Each command runs RUNS times (9).
 set -eu
-here=$(cd "$(dirname "$0")" && pwd)
 ixflow=$(realpath "${1:?usage: bench/copy.sh IXFLOW [MIB] [RUNS]}")
 mib=${2:-256}
 runs=${3:-9}
-work=$(mktemp -d)
-trap 'rm -rf "$work"' EXIT
-cd "$work"
+source "$(dirname "${BASH_SOURCE[0]}")/common.sh"
 
 python3 - "$mib" <<'END'
 import os, struct, sys
@@ -29,18 +26,11 @@ with open("design", "wb") as file:
     file.write(struct.pack("<9Q", *words))
 END
 
-measure() { # NAME COMMAND..
-    name=$1
-    shift
-    read -r middle least busy memory < <(python3 "$here/measure.py" "$runs" 0 "$@")
-    printf '%-28s %9s %9s %9s %9s\n' "$name" "$middle" "$least" "$busy" "$memory"
-}
-
 rustc --edition 2024 -O -o walk "$here/walk.rs"
 cat device >copy # so that the file is cached
 size=$(stat -c %s device)
 echo "a device of $size bytes ($mib MiB), $runs runs each"
-printf '%-28s %9s %9s %9s %9s\n' command 'median s' 'least s' 'cpu s' 'peak MiB'
+head_row
 measure 'ixflow flow' "$ixflow" flow device design routed
 measure 'plain Rust' ./walk device design
 measure 'cat to nowhere' cat device

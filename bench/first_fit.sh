@@ -9,13 +9,10 @@
 # The peak memory is what GNU time tells of one run more, since measure.py's counts what Python itself takes. The programs in
 # plain Rust take no design and write nothing.
 set -eu
-here=$(cd "$(dirname "$0")" && pwd)
 usage='usage: bench/first_fit.sh IXFLOW [RUNS]'
 ixflow=$(realpath "${1:?$usage}")
 runs=${2:-9}
-work=$(mktemp -d)
-trap 'rm -rf "$work"' EXIT
-cd "$work"
+source "$(dirname "${BASH_SOURCE[0]}")/common.sh"
 
 measure() { # NAME COMMAND..
     name=$1
@@ -23,13 +20,13 @@ measure() { # NAME COMMAND..
     read -r middle least busy _ < <(python3 "$here/measure.py" "$runs" 0 "$@")
     /usr/bin/time -f %M -o peak "$@" >line
     memory=$(awk '{ printf "%.1f", $1 / 1024 }' peak)
-    printf '%-28s %9s %9s %9s %9s\n' "$name" "$middle" "$least" "$busy" "$memory"
+    row "$name" "$middle" "$least" "$busy" "$memory"
 }
 
 make() { # TILES CELLS TYPES
     python3 "$here/make_first.py" "$1" "$2" "$3" device design
     echo "$2 cells of $3 types, $((2 * $1)) sites, $((4 * $1)) BELs that take a cell: a device of $(stat -c %s device) bytes, a design of $(stat -c %s design); load $(cut -d' ' -f1 /proc/loadavg)"
-    printf '%-28s %9s %9s %9s %9s\n' command 'median s' 'least s' 'cpu s' 'peak MiB'
+    head_row
 }
 
 fit() { # CELLS TYPES

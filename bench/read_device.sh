@@ -7,25 +7,15 @@
 # READER is a built program that reads the device that its word names, and ends with status 0; docs/PERFORMANCE.md says
 # how the one that was measured was made. DEVICE is a device file without faults. Each command runs RUNS times (9).
 set -eu
-here=$(cd "$(dirname "$0")" && pwd)
 reader=$(realpath "${1:?usage: bench/read_device.sh READER DEVICE [RUNS]}")
 device=$(realpath "${2:?usage: bench/read_device.sh READER DEVICE [RUNS]}")
 runs=${3:-9}
-work=$(mktemp -d)
-trap 'rm -rf "$work"' EXIT
-cd "$work"
-
-measure() { # NAME COMMAND..
-    name=$1
-    shift
-    read -r middle least busy memory < <(python3 "$here/measure.py" "$runs" 0 "$@")
-    printf '%-28s %9s %9s %9s %9s\n' "$name" "$middle" "$least" "$busy" "$memory"
-}
+source "$(dirname "${BASH_SOURCE[0]}")/common.sh"
 
 rustc --edition 2024 -O -o read_device "$here/read_device.rs"
 cat "$device" >/dev/null # so that the file is cached
 size=$(stat -c %s "$device")
 echo "a device of $size bytes, $runs runs each"
-printf '%-28s %9s %9s %9s %9s\n' command 'median s' 'least s' 'cpu s' 'peak MiB'
+head_row
 measure 'read_device' "$reader" "$device"
 measure 'plain Rust' ./read_device "$device"

@@ -1,0 +1,5 @@
+pub mod Nodes
+pub mod Pips
+pub mod Constants
+pub mod Spans
+pub mod Graph

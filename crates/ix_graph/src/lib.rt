@@ -1,0 +1,4 @@
+//! The node graph of a device: tile wires become nodes, and PIPs edges.
+#![tactic(auto)]
+
+mod type_pips;

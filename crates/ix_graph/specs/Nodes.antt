@@ -1,6 +1,6 @@
 -- The nodes of a device: classes of tile wires. A tile wire is told by its tile and its place in the tile's type.
-use Rattle.std.specs.Prelude.{ℕ, ◌+◌, List, [], ◌∷◌, ◌++◌, length, take, map, slice_get, Bool, not, ◌&&◌, nat_eq, nat_lt, Option, option_and_then}
-use Rattle.std.specs.List.{flat_map, list_any, filter, filter_map, position_or_len, range_with_len}
+use Rattle.std.specs.Prelude.{◌<◌, ℕ, ◌+◌, List, [], ◌∷◌, ◌++◌, length, take, map, slice_get, Bool, not, ◌&&◌, nat_eq, nat_lt, Option, option_and_then}
+use Rattle.std.specs.List.{AllByRecursion, flat_map, list_any, filter, filter_map, position_or_len, range_with_len}
 use Rattle.ix_rec.specs.declared.device.DeviceRec.{DeviceRec}
 use Rattle.ix_rec.specs.declared.device.Tile.{Tile}
 use Rattle.ix_rec.specs.declared.device.Node.{Node}
@@ -69,3 +69,7 @@ nodes_from rec tile (t ∷ ts) = map (node_of rec) (wires_in tile (wire_count re
 -- The wires of the node of this number: a tile wire is in one node.
 unfoldable pub wires_of_node : DeviceRec → ℕ → List (ℕ × ℕ)
 wires_of_node rec n = filter (λ w. nat_eq (node_of rec w) n) (tile_wires rec)
+
+-- these numbers are below a count
+abbrev pub AreBelow : ℕ → List ℕ → Type 0
+AreBelow count ns = AllByRecursion (λ n. n < count) ns

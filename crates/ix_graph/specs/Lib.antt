@@ -3,3 +3,4 @@ pub mod Pips
 pub mod Constants
 pub mod Spans
 pub mod Graph
+pub mod Tables

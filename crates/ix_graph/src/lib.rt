@@ -1,4 +1,6 @@
 //! The node graph of a device: tile wires become nodes, and PIPs edges.
 #![tactic(auto)]
 
+mod number;
+mod pips;
 mod type_pips;

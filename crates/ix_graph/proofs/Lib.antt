@@ -1,0 +1,4 @@
+pub mod FirstPipLemmas
+pub mod StartLemmas
+pub mod TypePipLemmas
+pub mod WayLemmas

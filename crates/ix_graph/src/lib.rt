@@ -1,4 +1,6 @@
 //! The node graph of a device: tile wires become nodes, and PIPs edges.
 #![tactic(auto)]
 
+mod constants;
+mod number;
 mod type_pips;

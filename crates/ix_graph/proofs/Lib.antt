@@ -1,0 +1,5 @@
+mod TileWires
+mod TileLemmas
+mod AnyLemmas
+mod MarkLemmas
+mod TypePipLemmas

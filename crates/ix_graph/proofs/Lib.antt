@@ -1,3 +1,8 @@
+mod AnyLemmas
+mod MarkLemmas
+mod TileLemmas
+mod TileWires
+mod TypePipLemmas
 pub mod FirstPipLemmas
 pub mod StartLemmas
 pub mod TypePipLemmas

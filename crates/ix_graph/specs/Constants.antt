@@ -1,5 +1,5 @@
 -- The constants that nodes carry.
-use Rattle.std.specs.Prelude.{ℕ, List, slice_get, Bool, true, false, ◌&&◌, ◌||◌, nat_eq, Option, Some, None, option_map, unwrap_or}
+use Rattle.std.specs.Prelude.{ℕ, Bool, true, false, ◌&&◌, ◌||◌, nat_eq, Option, Some, None, option_map, unwrap_or}
 use Rattle.std.specs.List.{list_any}
 use Rattle.ix_num.specs.declared.resource.Constant.{Constant}
 use Rattle.ix_num.specs.declared.resource.Constant.TheVariants.{Gnd, Vcc}

@@ -1,5 +1,5 @@
 -- The node graph of a device: what contracts see of it.
-use Rattle.std.specs.Prelude.{ℕ, List, length, map, slice_get, Bool, true, false, nat_eq, Option, Some, None, option_map, option_and_then}
+use Rattle.std.specs.Prelude.{ℕ, List, length, map, slice_get, Bool, false, nat_eq, Option, Some, None, option_map, option_and_then}
 use Rattle.std.specs.List.{filter, find, range_with_len}
 use Rattle.ix_num.specs.declared.resource.Constant.{Constant}
 use Rattle.ix_rec.specs.declared.device.DeviceRec.{DeviceRec}
@@ -26,7 +26,7 @@ graph_of rec = record {
   firsts = first_wires rec;
   pips = ways_from (map (λ ty. conventional ty.pips) rec.tile_type_list) 0 0 (map (λ t. t.ty) rec.tile_list);
   constants = map (constant_of_node rec) (range_with_len 0 (length (nodes rec)));
-  span_max = greatest (map (span rec) (range_with_len 0 (length (nodes rec))))
+  span_max = greatest (map (span rec) (range_with_len 0 (length (nodes rec))));
 }
 
 -- the node of a wire of a tile, where these are the nodes of the wires of all tiles

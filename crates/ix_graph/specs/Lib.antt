@@ -1,6 +1,8 @@
+pub mod Constants
+pub mod Graph
+pub mod Marks
+pub mod NodeTables
 pub mod Nodes
 pub mod Pips
-pub mod Constants
 pub mod Spans
-pub mod Graph
 pub mod Tables

@@ -1,6 +1,7 @@
 //! The node graph of a device: tile wires become nodes, and PIPs edges.
 #![tactic(auto)]
 
+mod constants;
 mod number;
 mod pips;
 mod type_pips;

@@ -1,4 +1,8 @@
+pub mod EntryLemmas
 pub mod FirstPipLemmas
+pub mod NumberLemmas
 pub mod StartLemmas
+pub mod TileNumbers
+pub mod TileWires
 pub mod TypePipLemmas
 pub mod WayLemmas

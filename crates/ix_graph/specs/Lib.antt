@@ -1,4 +1,5 @@
 pub mod Nodes
+pub mod NodeTables
 pub mod Pips
 pub mod Constants
 pub mod Spans

@@ -1,6 +1,7 @@
 //! The node graph of a device: tile wires become nodes, and PIPs edges.
 #![tactic(auto)]
 
+mod nodes;
 mod number;
 mod pips;
 mod type_pips;

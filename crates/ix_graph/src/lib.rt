@@ -2,6 +2,7 @@
 #![tactic(auto)]
 
 mod constants;
+mod nodes;
 mod number;
 mod pips;
 mod type_pips;

@@ -1,5 +1,7 @@
 pub mod Nodes
+pub mod NodeTables
 pub mod Pips
 pub mod Constants
 pub mod Spans
+pub mod Boxes
 pub mod Graph

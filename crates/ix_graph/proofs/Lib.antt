@@ -1,0 +1,4 @@
+mod TileWires
+mod TileLemmas
+mod BoxLemmas
+mod SpanLemmas

@@ -5,3 +5,4 @@ pub mod Constants
 pub mod Spans
 pub mod Boxes
 pub mod Graph
+pub mod Tables

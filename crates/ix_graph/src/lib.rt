@@ -1,5 +1,7 @@
 //! The node graph of a device: tile wires become nodes, and PIPs edges.
 #![tactic(auto)]
 
+mod number;
+mod pips;
 mod spans;
 mod type_pips;

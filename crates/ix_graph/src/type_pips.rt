@@ -1,8 +1,9 @@
 //! The conventional PIPs of tile types.
 
 ghost use Rattle.std.specs.Prelude.{◌≡◌, map, IfOk};
-ghost use Rattle.ix_graph.specs.Pips.{conventional};
+ghost use Rattle.ix_graph.specs.Pips.{is_conventional, conventional};
 
+use crate::number::number_of;
 use ix_num::Memory;
 use ix_rec::{Items, Pip, PipKind, TileType};
 use std::alloc::Global;
@@ -20,6 +21,13 @@ pub(crate) struct TilePip {
     pub directional: bool,
 }
 
+// Whether PIPs of this kind are conventional.
+fn is_conventional(kind: PipKind) -> bool
+    ensures { result ≡ is_conventional kind }
+{
+    kind == PipKind::Conventional
+}
+
 // The conventional ones of these PIPs.
 fn conventional(alloc: Global, pips: &Items<Pip>) -> Result<Items<TilePip>, Memory>
     ensures { IfOk result (λ found. found ≡ conventional pips.now) }
@@ -27,9 +35,9 @@ fn conventional(alloc: Global, pips: &Items<Pip>) -> Result<Items<TilePip>, Memo
     let mut found = Items::new(alloc);
     for i in 0..pips.len() {
         let pip = pips.at(i);
-        if pip.kind == PipKind::Conventional {
+        if is_conventional(pip.kind) {
             found.push(TilePip {
-                place: u32::try_from(i).map_err(|_| Memory)?,
+                place: number_of(i)?,
                 wire0: pip.wire0,
                 wire1: pip.wire1,
                 directional: pip.directional,

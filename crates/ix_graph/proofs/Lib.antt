@@ -11,3 +11,7 @@ pub mod TileNumbers
 pub mod TileWires
 pub mod TypePipLemmas
 pub mod WayLemmas
+mod TileWires
+mod TileLemmas
+mod BoxLemmas
+mod SpanLemmas

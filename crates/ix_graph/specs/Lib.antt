@@ -1,3 +1,4 @@
+pub mod Boxes
 pub mod Constants
 pub mod Graph
 pub mod Marks

@@ -5,4 +5,5 @@ mod constants;
 mod nodes;
 mod number;
 mod pips;
+mod spans;
 mod type_pips;

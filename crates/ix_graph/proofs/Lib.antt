@@ -1,17 +1,17 @@
-mod AnyLemmas
-mod MarkLemmas
-mod TileLemmas
-mod TileWires
-mod TypePipLemmas
+pub mod AnyLemmas
+pub mod BoxLemmas
+pub mod BuildLemmas
+pub mod EdgeLemmas
+pub mod EndLemmas
 pub mod EntryLemmas
 pub mod FirstPipLemmas
+pub mod GraphLemmas
+pub mod MarkLemmas
 pub mod NumberLemmas
+pub mod SpanLemmas
 pub mod StartLemmas
+pub mod TileLemmas
 pub mod TileNumbers
 pub mod TileWires
 pub mod TypePipLemmas
 pub mod WayLemmas
-mod TileWires
-mod TileLemmas
-mod BoxLemmas
-mod SpanLemmas

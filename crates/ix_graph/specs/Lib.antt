@@ -1,7 +1,11 @@
 pub mod Boxes
 pub mod Constants
+pub mod Edges
+pub mod Ends
 pub mod Graph
+pub mod IsGraph
 pub mod Marks
+pub mod Named
 pub mod NodeTables
 pub mod Nodes
 pub mod Pips

@@ -2,8 +2,13 @@
 #![tactic(auto)]
 
 mod constants;
+mod edges;
+mod ends;
+mod graph;
 mod nodes;
 mod number;
 mod pips;
 mod spans;
 mod type_pips;
+
+pub use graph::NodeGraph;

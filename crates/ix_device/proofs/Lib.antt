@@ -3,11 +3,13 @@ pub mod Differing
 pub mod FilledTables
 pub mod FirstMaps
 pub mod FirstPlaces
+pub mod Inside
 pub mod LineLemmas
 pub mod Listings
 pub mod OptionLemmas
 pub mod PlaceLemmas
 pub mod SiteLemmas
+pub mod SitePipLemmas
 pub mod SourceLemmas
 pub mod TileWireLemmas
 pub mod TypeLemmas

@@ -1,5 +1,5 @@
 -- What is there first of two, and lists by their first items.
-use Rattle.std.proofs.Common.{◌≡◌, refl, ap, sym, ◌∙◌, ℕ, ◌+◌, ◌||◌, Bool, true, false, cond, List, [], ◌∷◌, ◌++◌, slice_get, Option, Some, None, is_some, option_map}
+use Rattle.std.proofs.Common.{◌≡◌, refl, ap, sym, ◌∙◌, ℕ, suc, ◌+◌, ◌||◌, Bool, true, false, cond, List, [], ◌∷◌, ◌++◌, slice_get, Option, Some, None, is_some, option_map, option_and_then, arith}
 use Rattle.std.specs.Option.{option_or}
 use Rattle.std.specs.List.{list_any, position, find}
 use Rattle.std.proofs.lemmas.Option.{slice_get-get_or, none-some}
@@ -40,6 +40,19 @@ list_any-position p (x ∷ xs) = by (p x) (list_any-position p xs) ∙ ap is_som
 pub position-at : {X : Type 0} (p : X → Bool) (xs : List X) (k : ℕ) → position p xs ≡ Some k → (x : X) × (slice_get xs k ≡ Some x) × (p x ≡ true)
 position-at p [] k h = absurd (none-some k h)
 position-at p (y ∷ ys) k h = let at = position-Some p (y ∷ ys) k y h in (_, slice_get-get_or (y ∷ ys) k y at.0, at.1)
+
+-- the same the other way round
+pub find-place : {X : Type 0} (p : X → Bool) (xs : List X) → find p xs ≡ option_and_then (slice_get xs) (position p xs)
+find-place p [] = refl
+find-place {X} p (x ∷ xs) = by (p x) (find-place p xs) ∙ ap (option_and_then (slice_get (x ∷ xs))) (sym (position-cons p x xs))
+  where
+    next : (o : Option ℕ) → option_and_then (slice_get xs) o ≡ option_and_then (slice_get (x ∷ xs)) (option_map (λ n. n + 1) o)
+    next None = refl
+    next (Some n) = ap (slice_get (x ∷ xs)) (let e : suc n ≡ n + 1 = omega arith in e)
+
+    by : (b : Bool) → find p xs ≡ option_and_then (slice_get xs) (position p xs) → cond b (Some x) (find p xs) ≡ option_and_then (slice_get (x ∷ xs)) (cond b (Some 0) (option_map (λ n. n + 1) (position p xs)))
+    by true h = refl
+    by false h = h ∙ next (position p xs)
 
 pub find-push : {X : Type 0} (p : X → Bool) (xs : List X) (y : X) → find p (xs ++ y ∷ []) ≡ option_or (find p xs) (cond (p y) (Some y) None)
 find-push p xs y = find-append p xs (y ∷ [])

@@ -2,6 +2,7 @@ pub mod Lookups
 pub mod Elements
 pub mod Admission
 pub mod Sources
+pub mod SitePips
 pub mod Tables
 pub mod Listed
 pub mod Premises

@@ -1,5 +1,5 @@
 -- What a device's record has under a name or a number. A name's first bearer counts; in a valid device there is one.
-use Rattle.std.specs.Prelude.{ℕ, ◌+◌, List, [], ◌∷◌, ◌++◌, map, slice_get, Option, option_map, nat_eq, option_and_then}
+use Rattle.std.specs.Prelude.{ℕ, ◌+◌, List, [], ◌∷◌, ◌++◌, map, slice_get, Option, option_map, nat_eq, option_and_then, length, IfSome, ◌<◌}
 use Rattle.std.specs.List.{list_any, position}
 use Rattle.ix_rec.specs.declared.device.DeviceRec.{DeviceRec}
 use Rattle.ix_rec.specs.declared.device.SiteType.{SiteType}
@@ -30,6 +30,10 @@ name_of_site rec site = option_map (λ s. s.1.name) (slice_get (sites_of rec) si
 
 abbrev pub tile_of_site : DeviceRec → ℕ → Option ℕ
 tile_of_site rec site = option_map (λ s. s.0) (slice_get (sites_of rec) site)
+
+-- a site's place in the list of site types of its tile's type
+abbrev pub place_of_site : DeviceRec → ℕ → Option ℕ
+place_of_site rec site = option_map (λ s. s.1.ty) (slice_get (sites_of rec) site)
 
 -- the tile type of a tile
 abbrev pub type_of_tile : DeviceRec → ℕ → Option TileType
@@ -73,6 +77,22 @@ wire_in pin t = position (λ w. list_any (nat_eq pin) w.pins) t.site_wires
 abbrev pub wire_of_type : ℕ → TileType → Option ℕ
 wire_of_type name ty = position (nat_eq name) ty.wires
 
+-- the place of a wire of this name in the type of a tile
+abbrev pub wire_in_tile : DeviceRec → (tile name : ℕ) → Option ℕ
+wire_in_tile rec tile name = option_and_then (wire_of_type name) (type_of_tile rec tile)
+
+-- a place in the list of wires of the type of a tile
+abbrev pub IsInTile : DeviceRec → (tile wire : ℕ) → Type 0
+IsInTile rec tile wire = IfSome (type_of_tile rec tile) (λ ty. wire < length ty.wires)
+
+-- the place of the wire that a pin of the sites at this place of a tile type is on
+abbrev pub wire_of_pin : (place pin : ℕ) → TileType → Option ℕ
+wire_of_pin place pin ty = option_and_then (λ u. option_and_then (λ name. wire_of_type name ty) (slice_get u.primary_pins_to_tile_wires pin)) (slice_get ty.site_types place)
+
+-- the place, in the type of a site's tile, of the wire that the site's pin is on
+abbrev pub wire_of_site_pin : DeviceRec → (site pin : ℕ) → Option ℕ
+wire_of_site_pin rec site pin = option_and_then (λ s. option_and_then (wire_of_pin s.1.ty pin) (type_of_tile rec s.0)) (slice_get (sites_of rec) site)
+
 -- the tile wire of these names: its tile and its place
 abbrev pub tile_wire_named : DeviceRec → (tile wire : ℕ) → Option (ℕ × ℕ)
-tile_wire_named rec tile wire = option_and_then (λ i. option_map (λ w. (i, w)) (option_and_then (wire_of_type wire) (type_of_tile rec i))) (tile_named rec tile)
+tile_wire_named rec tile wire = option_and_then (λ i. option_map (λ w. (i, w)) (wire_in_tile rec i wire)) (tile_named rec tile)

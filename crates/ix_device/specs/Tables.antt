@@ -6,15 +6,15 @@ use Rattle.ix_rec.specs.declared.device.Site.{Site}
 use Rattle.ix_device.specs.Lookups.{type_of_tile, sites_of}
 use Rattle.ix_device.specs.declared.sites.SiteEntry.{SiteEntry}
 
--- an entry of the table of sites: the site's name, tile and type
-abbrev pub entry_told : SiteEntry → Option (ℕ × ℕ × ℕ)
-entry_told e = Some (e.name, e.tile, e.ty)
+-- an entry of the table of sites: the site's name, tile, type and place in its tile's type
+abbrev pub entry_told : SiteEntry → Option (ℕ × ℕ × ℕ × ℕ)
+entry_told e = Some (e.name, e.tile, e.ty, e.place)
 
 -- the same of a site in a tile of this type
-abbrev pub told_in : ℕ → TileType → Site → Option (ℕ × ℕ × ℕ)
-told_in tile ty s = option_map (λ u. (s.name, tile, u.primary_type)) (slice_get ty.site_types s.ty)
+abbrev pub told_in : ℕ → TileType → Site → Option (ℕ × ℕ × ℕ × ℕ)
+told_in tile ty s = option_map (λ u. (s.name, tile, u.primary_type, s.ty)) (slice_get ty.site_types s.ty)
 
-abbrev pub told_of : DeviceRec → ℕ × Site → Option (ℕ × ℕ × ℕ)
+abbrev pub told_of : DeviceRec → ℕ × Site → Option (ℕ × ℕ × ℕ × ℕ)
 told_of rec s = option_and_then (λ ty. told_in s.0 ty s.1) (type_of_tile rec s.0)
 
 abbrev pub AreSites : DeviceRec → List SiteEntry → Type 0

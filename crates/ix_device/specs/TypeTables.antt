@@ -7,6 +7,7 @@ use Rattle.ix_first.specs.First.{value_at, value_of}
 use Rattle.ix_device.specs.Lookups.{bel_in, pin_of_bel, site_pin_in, wire_in}
 use Rattle.ix_device.specs.Elements.{element_of_bel}
 use Rattle.ix_device.specs.Sources.{site_source_in}
+use Rattle.ix_device.specs.SitePips.{site_pip_from}
 use Rattle.ix_device.specs.Places.{usable_inputs}
 use Rattle.ix_device.specs.declared.types.TypeTables.{TypeTables}
 
@@ -18,6 +19,7 @@ pub record AreTypeTables (rec : DeviceRec) (t : SiteType) (tables : TypeTables) 
   pub elements : (bel : ℕ) → bel < length t.bels → value_of tables.elements bel ≡ Some (element_of_bel rec bel t)
   pub inputs : (bel : ℕ) → bel < length t.bels → value_of tables.inputs bel ≡ Some (usable_inputs rec t bel)
   pub sources : (pin : ℕ) → pin < length t.bel_pins → value_of tables.sources pin ≡ Some (site_source_in rec pin t)
+  pub site_pips : (pin : ℕ) → pin < length t.bel_pins → value_of tables.site_pips pin ≡ Some (site_pip_from pin t)
 
 -- the tables of all site types, in their order
 pub record AreAllTypeTables (rec : DeviceRec) (all : List TypeTables) : Type 0 where

@@ -1,20 +1,21 @@
 //! A device, and what it tells by name and by number.
 
 ghost use Rattle.std.specs.Prelude.{◌≡◌, ◌<◌, Some, None, length, slice_get, option_map, is_some, IfSome};
-ghost use Rattle.ix_rec.specs.Ranges.{IndexesFit};
+ghost use Rattle.ix_rec.specs.Ranges.{IndexesFit, SiteTypeFits};
 ghost use Rattle.ix_device_rules.specs.Rules.{first_broken};
-ghost use Rattle.ix_device.specs.Lookups.{tile_named, site_type_number, site_named, sites_of, name_of_site, tile_of_site, type_of_site, row_and_column, tile_wire_named, in_type, bel_in, bel_pin_in, site_pin_in, wire_in};
+ghost use Rattle.ix_device.specs.Lookups.{tile_named, site_type_number, site_named, sites_of, name_of_site, tile_of_site, type_of_site, place_of_site, row_and_column, wire_in_tile as wire_in_tile_seen, wire_of_site_pin as wire_of_site_pin_seen, IsInTile, tile_wire_named, in_type, bel_in, bel_pin_in, site_pin_in, wire_in};
 ghost use Rattle.ix_device.specs.Admission.{pins_in};
 ghost use Rattle.ix_device.specs.PinsListed.{pins_listed};
 ghost use Rattle.ix_device.specs.Elements.{lut_inputs_of, element_of_bel};
 ghost use Rattle.ix_device.specs.Sources.{site_source_in, has_constant};
+ghost use Rattle.ix_device.specs.SitePips.{site_pip_from};
 ghost use Rattle.ix_device.specs.TypeTables.{AreTypeTables};
 
 use crate::admitted::pins_of;
 use crate::pins::PinList;
 use crate::sites::SiteEntry;
 use crate::tables::Tables;
-use crate::tile_wires::tile_wire;
+use crate::tile_wires::{tile_wire, wire_in_tile, wire_of_pin};
 use crate::types::TypeTables;
 use ix_keys::Key;
 use ix_num::{
@@ -50,6 +51,7 @@ impl Device {
     fn parts(&self, t: SiteTypeId) -> (&SiteType, &TypeTables)
         requires { t < length self.now.site_type_list }
         ensures ty { slice_get self.now.site_type_list t ≡ Some result.0.now }
+        ensures fits { SiteTypeFits result.0.now }
         ensures tables { AreTypeTables self.now result.0.now result.1.now }
     {
         let place = t.get() as usize;
@@ -65,6 +67,8 @@ impl Device {
         ensures name { name_of_site self.now site ≡ Some result.name }
         ensures tile { tile_of_site self.now site ≡ Some result.tile }
         ensures ty { type_of_site self.now site ≡ Some result.ty }
+        ensures place { place_of_site self.now site ≡ Some result.place }
+        ensures inside { result.ty < length self.now.site_type_list }
     {
         *self.tables.entries.at(site.get() as usize)
     }
@@ -80,14 +84,16 @@ impl Device {
 
     /// The tile of this name; none exactly where there is none.
     pub fn tile(&self, name: NameId) -> Option<TileId>
-        ensures { result ≡ tile_named self.now name }
+        ensures tile { result ≡ tile_named self.now name }
+        ensures inside { IfSome result (λ t. t < length self.now.tile_list) }
     {
         self.tables.tiles.get(Key::of_name(name.get()))
     }
 
     /// The site of this name; none exactly where there is none.
     pub fn site(&self, name: NameId) -> Option<SiteId>
-        ensures { result ≡ site_named self.now name }
+        ensures site { result ≡ site_named self.now name }
+        ensures inside { IfSome result (λ s. s < length (sites_of self.now)) }
     {
         self.tables.sites.get(Key::of_name(name.get()))
     }
@@ -112,6 +118,26 @@ impl Device {
         )
     }
 
+    /// The place of the wire of this name in the tile's type; none exactly where there is none.
+    pub fn wire_in_tile(&self, tile: TileId, name: NameId) -> Option<u32>
+        requires { tile < length self.now.tile_list }
+        ensures wire { result ≡ wire_in_tile_seen self.now tile name }
+        ensures inside { IfSome result (IsInTile self.now tile) }
+    {
+        wire_in_tile(&self.rec, &self.tables.wires, tile, name)
+    }
+
+    /// The place, in the type of the site's tile, of the tile wire that the site's pin is on; none exactly where there is
+    /// none. In a valid device each pin of the site's type is on one.
+    pub fn wire_of_site_pin(&self, site: SiteId, pin: SitePinId) -> Option<u32>
+        requires { site < length (sites_of self.now) }
+        ensures wire { result ≡ wire_of_site_pin_seen self.now site pin }
+        ensures inside { IfSome result (λ w. IfSome (tile_of_site self.now site) (λ tile. IsInTile self.now tile w)) }
+    {
+        let entry = self.entry(site);
+        wire_of_pin(&self.rec, &self.tables.wires, entry.tile, entry.place, pin)
+    }
+
     /// How many sites there are. Their numbers are those below it, by tile and by place in the tile.
     pub fn sites(&self) -> u32
         ensures { result ≡ length (sites_of self.now) }
@@ -130,7 +156,8 @@ impl Device {
     /// The type of a site.
     pub fn type_of(&self, site: SiteId) -> SiteTypeId
         requires { site < length (sites_of self.now) }
-        ensures { type_of_site self.now site ≡ Some result }
+        ensures ty { type_of_site self.now site ≡ Some result }
+        ensures inside { result < length self.now.site_type_list }
     {
         self.entry(site).ty
     }
@@ -155,7 +182,8 @@ impl Device {
     /// The BEL of this name in a site type; none exactly where there is none.
     pub fn bel(&self, t: SiteTypeId, name: NameId) -> Option<BelId>
         requires { t < length self.now.site_type_list }
-        ensures { result ≡ in_type (bel_in name) self.now t }
+        ensures bel { result ≡ in_type (bel_in name) self.now t }
+        ensures inside { IfSome result (λ b. IfSome (slice_get self.now.site_type_list t) (λ ty. b < length ty.bels)) }
     {
         let (_, tables) = self.parts(t);
         tables.bels.get(Key::of_name(name.get()))
@@ -164,7 +192,8 @@ impl Device {
     /// The pin of this name of a BEL of a site type; none exactly where there is none.
     pub fn bel_pin(&self, t: SiteTypeId, bel: BelId, name: NameId) -> Option<BelPinId>
         requires { t < length self.now.site_type_list }
-        ensures { result ≡ in_type (bel_pin_in bel name) self.now t }
+        ensures pin { result ≡ in_type (bel_pin_in bel name) self.now t }
+        ensures inside { IfSome result (λ p. IfSome (slice_get self.now.site_type_list t) (λ ty. p < length ty.bel_pins)) }
     {
         let (ty, tables) = self.parts(t);
         match ty.bels.as_slice().get(bel.get() as usize) {
@@ -183,10 +212,23 @@ impl Device {
         tables.wires.get(pin.get() as usize)
     }
 
+    /// The BEL pin to which the first site PIP from a BEL pin of a site type leads; none exactly where there is no site PIP
+    /// from it, a BEL inverts there, or the pin's BEL isn't for routing.
+    pub fn site_pip(&self, t: SiteTypeId, pin: BelPinId) -> Option<BelPinId>
+        requires ty { t < length self.now.site_type_list }
+        requires pin { IfSome (slice_get self.now.site_type_list t) (λ ty. pin < length ty.bel_pins) }
+        ensures pip { result ≡ in_type (site_pip_from pin) self.now t }
+        ensures inside { IfSome result (λ p. IfSome (slice_get self.now.site_type_list t) (λ ty. p < length ty.bel_pins)) }
+    {
+        let (_, tables) = self.parts(t);
+        tables.site_pips.get(pin.get() as usize)
+    }
+
     /// The site pin of this name of a site type; none exactly where there is none.
     pub fn site_pin(&self, t: SiteTypeId, name: NameId) -> Option<SitePinId>
         requires { t < length self.now.site_type_list }
-        ensures { result ≡ in_type (site_pin_in name) self.now t }
+        ensures pin { result ≡ in_type (site_pin_in name) self.now t }
+        ensures inside { IfSome result (λ p. IfSome (slice_get self.now.site_type_list t) (λ ty. p < length ty.pins)) }
     {
         let (_, tables) = self.parts(t);
         tables.site_pins.get(Key::of_name(name.get()))

@@ -13,6 +13,7 @@ mod lut_inputs;
 mod luts;
 mod names;
 mod pins;
+mod site_pips;
 mod site_sources;
 mod sites;
 mod tables;

@@ -8,6 +8,7 @@ ghost use Rattle.ix_device.specs.Tables.{entry_told, told_in, AreSites};
 use ix_num::{Memory, NameId, SiteTypeId, TileId};
 use ix_rec::{DeviceRec, Items, Site, TileType};
 use std::alloc::Global;
+use std::mem::size_of;
 
 /// What is told of a site.
 #[derive(Clone, Copy)]
@@ -18,7 +19,12 @@ pub(crate) struct SiteEntry {
     pub tile: TileId,
     /// Its type.
     pub ty: SiteTypeId,
+    /// Its place in the list of site types of its tile's type.
+    pub place: u32,
 }
+
+// A device may have millions of them.
+const _: () = prove!(size_of::<SiteEntry>() <= 16);
 
 // The sites of a tile of this type, after those that are there.
 fn add_sites(
@@ -37,6 +43,7 @@ fn add_sites(
             name: site.name,
             tile,
             ty,
+            place: site.ty,
         })?;
     }
     Ok(())

@@ -1,17 +1,17 @@
 //! The wires of tile types, by name.
 
-ghost use Rattle.std.specs.Prelude.{◌≡◌, ◌&&◌, ℕ, Some, nat_eq, position, slice_get, IfOk, OnOk};
+ghost use Rattle.std.specs.Prelude.{◌≡◌, ◌&&◌, ℕ, Some, nat_eq, option_and_then, position, slice_get, IfOk, OnOk};
 ghost use Rattle.ix_keys.specs.declared.key.Key.{Key as KeySeen};
 ghost use Rattle.ix_keys.specs.Keys.{key, name_key};
 ghost use Rattle.ix_first.specs.First.{value_at, or_found};
 ghost use Rattle.ix_rec.specs.declared.device.TileType.{TileType as TypeSeen};
-ghost use Rattle.ix_device.specs.Lookups.{wire_of_type, tile_named, tile_wire_named};
+ghost use Rattle.ix_device.specs.Lookups.{wire_of_type, wire_of_pin as wire_of_pin_seen, wire_in_tile as wire_in_tile_seen, type_of_tile, tile_named, tile_wire_named};
 ghost use Rattle.ix_device.specs.TileWires.{of_type};
 
 use crate::sites::number_of;
 use ix_first::FirstByKey;
 use ix_keys::Key;
-use ix_num::{Memory, NameId, TileId};
+use ix_num::{Memory, NameId, SitePinId, TileId};
 use ix_rec::{DeviceRec, Items, TileType};
 use std::alloc::Global;
 
@@ -37,6 +37,40 @@ pub(crate) fn tile_wires(alloc: Global, types: &Items<TileType>) -> Result<First
     Ok(table)
 }
 
+/// The place of the wire of this name in the type of a tile.
+pub(crate) fn wire_in_tile(
+    rec: &DeviceRec,
+    wires: &FirstByKey<u32>,
+    tile: TileId,
+    name: NameId,
+) -> Option<u32>
+    requires { (k : ℕ) (ty : TypeSeen) → slice_get rec.now.tile_type_list k ≡ Some ty → (name : ℕ) → value_at wires.now (key k 0 name) ≡ wire_of_type name ty }
+    ensures { result ≡ wire_in_tile_seen rec.now tile name }
+{
+    let ty = rec.tile_list.as_slice().get(tile.get() as usize)?.ty;
+    rec.tile_type_list.as_slice().get(ty as usize)?;
+    wires.get(Key::new(ty, 0, name.get()))
+}
+
+/// The place, in the type of a tile, of the wire that a pin of the tile's sites at this place of its type is on.
+pub(crate) fn wire_of_pin(
+    rec: &DeviceRec,
+    wires: &FirstByKey<u32>,
+    tile: TileId,
+    place: u32,
+    pin: SitePinId,
+) -> Option<u32>
+    requires { (k : ℕ) (ty : TypeSeen) → slice_get rec.now.tile_type_list k ≡ Some ty → (name : ℕ) → value_at wires.now (key k 0 name) ≡ wire_of_type name ty }
+    ensures { result ≡ option_and_then (wire_of_pin_seen place pin) (type_of_tile rec.now tile) }
+{
+    let number = rec.tile_list.as_slice().get(tile.get() as usize)?.ty;
+    let ty = rec.tile_type_list.as_slice().get(number as usize)?;
+    let sites = ty.site_types.as_slice().get(place as usize)?;
+    let names = sites.primary_pins_to_tile_wires.as_slice();
+    let name = *names.get(pin.get() as usize)?;
+    wires.get(Key::new(number, 0, name.get()))
+}
+
 /// The tile wire of these names: its tile, and its place in the tile's type.
 pub(crate) fn tile_wire(
     rec: &DeviceRec,
@@ -50,8 +84,6 @@ pub(crate) fn tile_wire(
     ensures { result ≡ tile_wire_named rec.now tile wire }
 {
     let tile = tiles.get(Key::of_name(tile.get()))?;
-    let ty = rec.tile_list.as_slice().get(tile.get() as usize)?.ty;
-    rec.tile_type_list.as_slice().get(ty as usize)?;
-    let place = wires.get(Key::new(ty, 0, wire.get()))?;
+    let place = wire_in_tile(rec, wires, tile, wire)?;
     Some((tile, place))
 }

@@ -13,6 +13,7 @@ ghost use Rattle.ix_device.specs.TypeTables.{AreTypeTables, AreAllTypeTables};
 
 use crate::element_places::{ElementPlace, element_places, elements_of_bels};
 use crate::lut_inputs::inputs_of_bels;
+use crate::site_pips::site_pips_from_pins;
 use crate::site_sources::{source_table, sources_of_pins};
 use crate::sites::number_of;
 use crate::usable::Pins;
@@ -39,6 +40,8 @@ pub(crate) struct TypeTables {
     pub inputs: FirstById<u32>,
     /// The constant that each BEL pin can drive.
     pub sources: FirstById<Constant>,
+    /// The BEL pin to which the first site PIP from each BEL pin leads, where that PIP can be used.
+    pub site_pips: FirstById<BelPinId>,
 }
 
 // The BELs by name.
@@ -111,6 +114,7 @@ fn type_tables(
     requires sources { (q : KeySeen) → value_at sources.now q ≡ named_source rec.now q }
     ensures { IfOk result (AreTypeTables rec.now ty.now) }
 {
+    let bels = bel_numbers(alloc, ty)?;
     let bel_pins = bel_pin_numbers(alloc, ty)?;
     let wires = wires_of_pins(alloc, ty)?;
     let pins = Pins {
@@ -120,14 +124,16 @@ fn type_tables(
     };
     let inputs = inputs_of_bels(alloc, rec, &pins, places)?;
     let sources = sources_of_pins(alloc, ty, &bel_pins, sources)?;
+    let site_pips = site_pips_from_pins(alloc, ty, &bels)?;
     Ok(TypeTables {
-        bels: bel_numbers(alloc, ty)?,
+        bels,
         bel_pins,
         site_pins: site_pin_numbers(alloc, ty)?,
         wires,
         elements: elements_of_bels(alloc, ty, places)?,
         inputs,
         sources,
+        site_pips,
     })
 }
 

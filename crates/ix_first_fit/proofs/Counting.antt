@@ -1,23 +1,17 @@
 -- Counts of cells and of BELs, one by one.
 use Rattle.std.proofs.Common.{◌≡◌, ◌≢◌, refl, ap, sym, subst, ◌∙◌, IfSome, IsSome, is_none, ℕ, zero, suc, ◌+◌, ◌<◌, ◌≤◌, List, [], ◌∷◌, take, length, slice_get, Option, Some, None, is_some, unwrap_or, option_map, option_and_then, Bool, true, false, cond, nat_eq, arith}
-use Rattle.std.specs.List.{AllByRecursion}
 use Rattle.std.proofs.lemmas.Option.{same_Some, none-some, slice_get_within, get_or_from_slice_get}
 use Rattle.std.proofs.lemmas.Bool.{eqb-true, eqb-false, true≢false, false≢true}
 use Rattle.ix_first.specs.First.{or_later}
 use Rattle.ix_first_fit.specs.Fit.{Suffices}
 use Rattle.std.proofs.lemmas.List.Sums.{sum_by_more, count_by-le-length}
-use Rattle.ix_rec.specs.Ranges.{IndexesFit, TileTypeFits}
 use Rattle.ix_rec.specs.declared.device.DeviceRec.{DeviceRec}
 use Rattle.ix_rec.specs.declared.device.SiteType.{SiteType}
-use Rattle.ix_rec.specs.declared.device.TileType.{TileType}
-use Rattle.ix_rec.specs.declared.device.SiteTypeInTileType.{SiteTypeInTileType}
-use Rattle.ix_rec.specs.declared.device.Site.{Site}
-use Rattle.ix_rec.specs.declared.device.Tile.{Tile}
-use Rattle.ix_device.specs.Lookups.{in_type, type_of_site, type_of_tile, sites_of}
+use Rattle.ix_device.specs.Lookups.{in_type, type_of_site}
 use Rattle.ix_device.specs.Admission.{pins_in}
 use Rattle.ix_first_fit.specs.declared.cell.Cell.{Cell}
 use Rattle.ix_first_fit.specs.Spots.{type_at, pins_at, admits, spot, count_below, sum_below, bels_of_site, takers_at, cells_of}
-use Rattle.ix_first_fit.proofs.Walks.{at_place, length_take}
+use Rattle.ix_first_fit.proofs.Walks.{length_take}
 
 -- a BEL of a site type admits a cell type
 abbrev pub takes_in : DeviceRec → (ty t bel : ℕ) → Bool
@@ -60,27 +54,6 @@ pub all_takers : (rec : DeviceRec) (ty t n : ℕ) (u : SiteType) → slice_get r
 unfolding takers_at
 all_takers rec ty t n u e same site h =
     count_same (λ b. takes_in rec ty t b) (λ b. admits rec ty (spot site b)) n (λ b. admits_in rec ty site t b h) ∙ ap (λ m. count_below (λ b. admits rec ty (spot site b)) m) (same ∙ sym (bels_at rec site t u h e))
-
--- the type of a site is one of the site types
-pub type_is_there : (rec : DeviceRec) → IndexesFit rec → (site t : ℕ) → type_of_site rec site ≡ Some t → t < length rec.site_type_list
-type_is_there rec fits site t h = by (slice_get (sites_of rec) site) h
-  where
-    listed : (ty : TileType) → AllByRecursion (λ s. s.primary_type < length rec.site_type_list) ty.site_types → (k : ℕ) (o : Option SiteTypeInTileType) → slice_get ty.site_types k ≡ o → option_map (λ u. u.primary_type) o ≡ Some t
-        → t < length rec.site_type_list
-    listed ty all k None e g = absurd (none-some t g)
-    listed ty all k (Some u) e g = let here : u.primary_type < length rec.site_type_list = at_place (λ s. s.primary_type < length rec.site_type_list) ty.site_types k u all e in let same : u.primary_type ≡ t = same_Some u.primary_type t g in omega arith
-
-    of_tile : (s : ℕ × Site) (o : Option Tile) → option_and_then (λ ty. option_map (λ u. u.primary_type) (slice_get ty.site_types s.1.ty)) (option_and_then (λ u. slice_get rec.tile_type_list u.ty) o) ≡ Some t → t < length rec.site_type_list
-    of_tile s None g = absurd (none-some t g)
-    of_tile s (Some tile) g = in_tile_type (slice_get rec.tile_type_list tile.ty) refl g
-      where
-        in_tile_type : (o : Option TileType) → slice_get rec.tile_type_list tile.ty ≡ o → option_and_then (λ ty. option_map (λ u. u.primary_type) (slice_get ty.site_types s.1.ty)) o ≡ Some t → t < length rec.site_type_list
-        in_tile_type None e g = absurd (none-some t g)
-        in_tile_type (Some ty) e g = listed ty (at_place (TileTypeFits (length rec.site_type_list)) rec.tile_type_list tile.ty ty fits.tile_types e).sites s.1.ty (slice_get ty.site_types s.1.ty) refl g
-
-    by : (o : Option (ℕ × Site)) → option_and_then (λ s. option_and_then (λ ty. option_map (λ u. u.primary_type) (slice_get ty.site_types s.1.ty)) (type_of_tile rec s.0)) o ≡ Some t → t < length rec.site_type_list
-    by None g = absurd (none-some t g)
-    by (Some s) g = of_tile s (slice_get rec.tile_list s.0) g
 
 -- one more cell
 pub cells_next : (ty : ℕ) (cells : List Cell) (i : ℕ) (c : Cell) → slice_get cells i ≡ Some c → cells_of ty (take (i + 1) cells) ≡ cells_of ty (take i cells) + cond (nat_eq c.ty ty) 1 0

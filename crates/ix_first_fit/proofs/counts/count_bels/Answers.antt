@@ -11,13 +11,13 @@ loop-site-init c = record { count = sym (sum_start (λ s. takers_at c.args.devic
 pub at-requires : goal.at-requires
 at-requires c =
     let within : c.type_of-t.result < length c.in_ok-takers.takers =
-    slice_get_within c.in_ok-takers.takers c.type_of-t.result _ (c.in_ok-takers.ensures c.new.result c.type_of-t.result c.type_of-t.ensures) in omega arith
+    slice_get_within c.in_ok-takers.takers c.type_of-t.result _ (c.in_ok-takers.ensures c.new.result c.type_of-t.result c.type_of-t.ensures.ty) in omega arith
 
 pub loop-site-preserved : goal.loop-site-preserved
 loop-site-preserved c =
     let f : ℕ → ℕ = λ s. takers_at c.args.device.now c.args.ty s in
     let at : c.at.result.now ≡ f c.loop-site.site =
-    same_Some _ _ (sym c.at.ensures ∙ ap (slice_get c.in_ok-takers.takers) c.get.ensures ∙ c.in_ok-takers.ensures c.new.result c.type_of-t.result c.type_of-t.ensures) ∙ ap f c.new.ensures in record {
+    same_Some _ _ (sym c.at.ensures ∙ ap (slice_get c.in_ok-takers.takers) c.get.ensures ∙ c.in_ok-takers.ensures c.new.result c.type_of-t.result c.type_of-t.ensures.ty) ∙ ap f c.new.ensures in record {
       count = bels_step f c.loop-site.count c.from-count.result c.loop-site.site _ c.loop-site.invariant.count (c.from-count.ensures ∙ at) refl;
       few = omega arith;
     }

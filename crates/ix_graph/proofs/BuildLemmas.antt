@@ -1,5 +1,5 @@
 -- A graph of a device has nodes for the wires that its PIPs join.
-use Rattle.std.proofs.Common.{◌≡◌, ◌<◌, refl, ap, sym, subst, ◌∙◌, ℕ, ◌+◌, Bool, true, false, if◌then◌else◌, List, [], ◌∷◌, length, map, slice_get, Option, Some, None, IsSome, IfSome, unwrap_or, option_map, option_and_then, arith}
+use Rattle.std.proofs.Common.{◌≡◌, ◌<◌, refl, ap, sym, subst, ◌∙◌, ℕ, ◌+◌, Bool, true, false, if◌then◌else◌, List, [], ◌∷◌, length, map, slice_get, Option, Some, None, IsSome, IfSome, unwrap_or, option_map, option_and_then}
 use Rattle.std.specs.List.{AllByRecursion, range_with_len}
 use Rattle.std.proofs.lemmas.Bool.{false≢true}
 use Rattle.std.proofs.lemmas.List.{length-map}
@@ -10,7 +10,7 @@ use Rattle.ix_rec.specs.declared.device.Tile.{Tile}
 use Rattle.ix_rec.specs.declared.device.TileType.{TileType}
 use Rattle.ix_rec.specs.declared.device.Site.{Site}
 use Rattle.ix_rec.specs.declared.device.Pip.{Pip}
-use Rattle.ix_rec.specs.Ranges.{IndexesFit, SitesFit, TileTypeFits}
+use Rattle.ix_rec.specs.Ranges.{IndexesFit, SitesFit}
 use Rattle.ix_device.proofs.Walks.{at_place}
 use Rattle.ix_device.proofs.SiteLemmas.{type_within}
 use Rattle.ix_graph.specs.declared.type_pips.TilePip.{TilePip}
@@ -61,9 +61,9 @@ module _ (rec : DeviceRec) (fits : IndexesFit rec) where
       by None e h = absurd (subst (λ o. SitesFit o t.sites) e h)
       by (Some T) e h =
           subst (λ k. AreWithin (length ws) (pips_of_type (map (λ u. conventional u.pips) rec.tile_type_list) k)) same
-              (subst (λ xs. AreWithin (length ws) xs) (sym (pips_of_place rec.tile_type_list t.ty T e))
-                  (subst (λ n. AreWithin n (conventional T.pips)) (sym (length_of_wires rec tile t T e) ∙ ap length (same_Some _ _ (sym (nodes_at rec tile t at) ∙ at_wires)))
-                      (conventional_within (length T.wires) 0 T.pips (at_place _ rec.tile_type_list t.ty T fits.tile_types e).pips)))
+          (subst (λ xs. AreWithin (length ws) xs) (sym (pips_of_place rec.tile_type_list t.ty T e))
+          (subst (λ n. AreWithin n (conventional T.pips)) (sym (length_of_wires rec tile t T e) ∙ ap length (same_Some _ _ (sym (nodes_at rec tile t at) ∙ at_wires)))
+          (conventional_within (length T.wires) 0 T.pips (at_place _ rec.tile_type_list t.ty T fits.tile_types e).pips)))
 
   kind_within : (tile ty : ℕ) (ws : List ℕ) → slice_get (map (λ t. t.ty) rec.tile_list) tile ≡ Some ty → slice_get (nodes_from rec 0 rec.tile_list) tile ≡ Some ws
       → AreWithin (length ws) (pips_of_type (map (λ u. conventional u.pips) rec.tile_type_list) ty)
@@ -75,17 +75,18 @@ module _ (rec : DeviceRec) (fits : IndexesFit rec) where
 
   whole : (count : ℕ) → AllByRecursion (AreBelow count) (nodes_from rec 0 rec.tile_list) → HaveNodes (nodes_from rec 0 rec.tile_list) (map (λ u. conventional u.pips) rec.tile_type_list) (map (λ t. t.ty) rec.tile_list) count
   whole count below = record {
-      tiles = nodes_count rec 0 rec.tile_list ∙ sym (length-map rec.tile_list (λ t. t.ty));
-      kinds_stand = kinds_below rec.tile_type_list (length (map (λ u. conventional u.pips) rec.tile_type_list)) rec.tile_list (sym (length-map rec.tile_type_list (λ u. conventional u.pips))) fits.tiles;
-      within = kind_within;
-      below = below }
+    tiles = nodes_count rec 0 rec.tile_list ∙ sym (length-map rec.tile_list (λ t. t.ty));
+    kinds_stand = kinds_below rec.tile_type_list (length (map (λ u. conventional u.pips) rec.tile_type_list)) rec.tile_list (sym (length-map rec.tile_type_list (λ u. conventional u.pips))) fits.tiles;
+    within = kind_within;
+    below = below;
+  }
 
   -- the nodes of the wires, the types of the tiles and their PIPs, as they are told
   pub have_nodes : (wires : List (List ℕ)) (types : List (List TilePip)) (kinds : List ℕ) (count : ℕ) → wires ≡ nodes_from rec 0 rec.tile_list → types ≡ map (λ u. conventional u.pips) rec.tile_type_list → kinds ≡ map (λ t. t.ty) rec.tile_list
       → AllByRecursion (AreBelow count) wires → HaveNodes wires types kinds count
   have_nodes wires types kinds count e f g below =
       subst (λ ws. HaveNodes ws types kinds count) (sym e) (subst (λ xs. HaveNodes (nodes_from rec 0 rec.tile_list) xs kinds count) (sym f)
-          (subst (λ ks. HaveNodes (nodes_from rec 0 rec.tile_list) (map (λ u. conventional u.pips) rec.tile_type_list) ks count) (sym g) (whole count (subst (λ ws. AllByRecursion (AreBelow count) ws) e below))))
+      (subst (λ ks. HaveNodes (nodes_from rec 0 rec.tile_list) (map (λ u. conventional u.pips) rec.tile_type_list) ks count) (sym g) (whole count (subst (λ ws. AllByRecursion (AreBelow count) ws) e below))))
 
   -- a graph's parts are those of the device's graph
   pub same_graph : (wires : List (List ℕ)) (firsts : List (ℕ × ℕ)) (types : List (List TilePip)) (kinds : List ℕ) (constants : List (Option Constant)) (most count : ℕ) → wires ≡ nodes_from rec 0 rec.tile_list → firsts ≡ first_wires rec
@@ -112,7 +113,7 @@ node_there rec site pin tile w at_wire at_tile inside = by (slice_get (sites_of 
     typed : (t : Tile) → slice_get rec.tile_list tile ≡ Some t → (T : TileType) → slice_get rec.tile_type_list t.ty ≡ Some T → w < length T.wires → IsSome (node_at (nodes_from rec 0 rec.tile_list) tile w)
     typed t at T at_type lt =
         subst (λ o. IsSome (option_and_then (λ ws. slice_get ws w) o)) (sym (nodes_at rec tile t at))
-            (within_some (map (node_of rec) (wires_in tile (wire_count rec t))) w (subst (λ n. w < n) (sym (length_of_wires rec tile t T at_type)) lt))
+        (within_some (map (node_of rec) (wires_in tile (wire_count rec t))) w (subst (λ n. w < n) (sym (length_of_wires rec tile t T at_type)) lt))
 
     with_tile : (o : Option Tile) → slice_get rec.tile_list tile ≡ o → (T : TileType) → option_and_then (λ t. slice_get rec.tile_type_list t.ty) o ≡ Some T → w < length T.wires → IsSome (node_at (nodes_from rec 0 rec.tile_list) tile w)
     with_tile None e T h lt = absurd (none-some T h)

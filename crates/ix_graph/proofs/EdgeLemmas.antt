@@ -1,10 +1,10 @@
 -- Counting and filling the rows of edges, PIP by PIP and tile by tile.
-use Rattle.std.proofs.Common.{◌≡◌, ◌<◌, ◌≤◌, refl, ap, sym, ◌∙◌, ℕ, zero, suc, ◌+◌, ◌*◌, ◌^◌, Bool, true, false, if◌then◌else◌, List, [], ◌∷◌, ◌++◌, length, map, take, drop, slice_get, Option, Some, None, option_map, option_and_then, append_assoc, arith}
+use Rattle.std.proofs.Common.{◌≡◌, ◌≤◌, refl, ap, sym, ◌∙◌, ℕ, ◌+◌, ◌*◌, Bool, true, false, if◌then◌else◌, List, [], ◌∷◌, ◌++◌, length, map, take, drop, slice_get, Option, Some, option_map, option_and_then, append_assoc, arith}
 use Rattle.std.specs.List.{filter, sum_by, AllByRecursion}
-use Rattle.std.proofs.lemmas.List.{append-nil, map-append, length-append, length-map, take-append-drop}
+use Rattle.std.proofs.lemmas.List.{map-append, length-append, length-map, take-append-drop}
 use Rattle.std.proofs.lemmas.List.Elements.{filter-append}
 use Rattle.std.proofs.lemmas.List.Sums.{sum_by-append, sum_by-cons, sum_by-take-le}
-use Rattle.ix_device.proofs.Walks.{take_next, length_take}
+use Rattle.ix_device.proofs.Walks.{take_next}
 use Rattle.ix_graph.specs.declared.type_pips.TilePip.{TilePip}
 use Rattle.ix_graph.specs.Pips.{DirectedPip, directed_pip, enters_at, leaves_at, ways, ways_in, ways_from, pips_of_type}
 use Rattle.ix_graph.specs.Graph.{is_node, node_at, goes_from, edge}
@@ -133,7 +133,7 @@ pub at_most_all : (wires : List (List ℕ)) (types : List (List TilePip)) (kinds
 at_most_all wires types kinds n i =
     let rest = ways_from types (0 + length (take i kinds)) (0 + pip_count types (take i kinds)) (drop i kinds) in
     let e : length (filter (goes_from wires n) (ways_from types 0 0 kinds)) ≡ length (filter (goes_from wires n) (ways_from types 0 0 (take i kinds))) + length (filter (goes_from wires n) rest)
-        = ap (λ l. length (filter (goes_from wires n) l)) (rest_of_tiles types kinds i) ∙ ap length (filter-append (goes_from wires n) (ways_from types 0 0 (take i kinds)) rest) ∙ length-append _ _ in
+    = ap (λ l. length (filter (goes_from wires n) l)) (rest_of_tiles types kinds i) ∙ ap length (filter-append (goes_from wires n) (ways_from types 0 0 (take i kinds)) rest) ∙ length-append _ _ in
     omega arith
 
 -- Tile i, of this type, whose wires have these nodes.

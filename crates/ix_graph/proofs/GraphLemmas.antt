@@ -1,7 +1,7 @@
 -- What holds of a graph's directed PIPs, and of the nodes that they join.
-use Rattle.std.proofs.Common.{◌≡◌, ◌<◌, ◌≤◌, refl, ap, sym, subst, ◌∙◌, ℕ, zero, suc, ◌+◌, ◌*◌, ◌^◌, Bool, true, false, ◌&&◌, nat_eq, if◌then◌else◌, List, [], ◌∷◌, ◌++◌, length, map, take, slice_get, Option, Some, None, IsSome, IfSome, is_some, unwrap_or, get_or, option_map, option_and_then, append_assoc, arith}
-use Rattle.std.specs.List.{filter, find, sum_by, AllByRecursion}
-use Rattle.std.proofs.lemmas.List.{length-append, length-map, take_all}
+use Rattle.std.proofs.Common.{◌≡◌, ◌<◌, ◌≤◌, refl, ap, sym, subst, ◌∙◌, ℕ, zero, suc, ◌+◌, ◌*◌, ◌^◌, Bool, true, false, nat_eq, if◌then◌else◌, List, [], ◌∷◌, ◌++◌, length, map, take, slice_get, Option, Some, None, IsSome, IfSome, is_some, get_or, option_map, option_and_then, append_assoc, arith}
+use Rattle.std.specs.List.{filter, find, AllByRecursion}
+use Rattle.std.proofs.lemmas.List.{length-append, take_all}
 use Rattle.std.proofs.lemmas.Bool.{eq-eqb, ne_eqb}
 use Rattle.std.proofs.lemmas.List.Sums.{sum_by-cons}
 use Rattle.std.proofs.lemmas.Option.{same_Some, none-some, slice_get-get_or, slice_get-map}
@@ -9,8 +9,8 @@ use Rattle.ix_device.proofs.Walks.{at_place}
 use Rattle.ix_graph.specs.declared.type_pips.TilePip.{TilePip}
 use Rattle.ix_graph.specs.declared.edges.Edge.{Edge}
 use Rattle.ix_graph.specs.Nodes.{AreBelow}
-use Rattle.ix_graph.specs.Pips.{DirectedPip, directed_pip, enters_at, leaves_at, ways, ways_in, ways_from, pips_of_type}
-use Rattle.ix_graph.specs.Graph.{is_node, node_at, from_node, to_node, goes_from, edge, ends_at}
+use Rattle.ix_graph.specs.Pips.{DirectedPip, directed_pip, leaves_at, ways, ways_in, ways_from, pips_of_type}
+use Rattle.ix_graph.specs.Graph.{node_at, to_node, edge}
 use Rattle.ix_graph.specs.Tables.{pip_count}
 use Rattle.ix_graph.specs.Edges.{told, AreWithin, HaveNodes}
 use Rattle.ix_graph.proofs.WayLemmas.{ways_next}
@@ -38,7 +38,7 @@ unfolding ways_in
 rise_in tile p [] rest r = rise_lower (2 * p) (2 * (p + 0)) rest (omega arith) r
 rise_in tile p (x ∷ xs) rest r =
     subst (Rise (2 * p)) (sym (append_assoc (ways tile p x) (ways_in tile (p + 1) xs) rest))
-        (rise_ways tile p x (ways_in tile (p + 1) xs ++ rest) (rise_in tile (p + 1) xs rest (rise_lower (2 * (p + 1 + length xs)) (2 * (p + length (x ∷ xs))) rest (omega arith) r)))
+    (rise_ways tile p x (ways_in tile (p + 1) xs ++ rest) (rise_in tile (p + 1) xs rest (rise_lower (2 * (p + 1 + length xs)) (2 * (p + length (x ∷ xs))) rest (omega arith) r)))
 
 pub rise_from : (types : List (List TilePip)) (tile p : ℕ) (tys : List ℕ) → Rise (2 * p) (ways_from types tile p tys)
 unfolding ways_from
@@ -178,9 +178,9 @@ unfolding ways_from
 nodes_before wires types kinds count zero have h = tt
 nodes_before wires types kinds count (suc i) have h =
     subst (λ k. AllByRecursion (HasNodes wires) (ways_from types 0 0 (take k kinds))) next
-        (subst (AllByRecursion (HasNodes wires)) (sym (ways_next types kinds i (get_or kinds i 0) at_kind))
-            (all-append (HasNodes wires) (ways_from types 0 0 (take i kinds)) (ways_in i (pip_count types (take i kinds)) (pips_of_type types (get_or kinds i 0))) (nodes_before wires types kinds count i have (omega arith))
-                (tile_has_nodes wires (get_or wires i []) i (pip_count types (take i kinds)) (pips_of_type types (get_or kinds i 0)) at_wires (have.within i (get_or kinds i 0) (get_or wires i []) at_kind at_wires))))
+    (subst (AllByRecursion (HasNodes wires)) (sym (ways_next types kinds i (get_or kinds i 0) at_kind))
+    (all-append (HasNodes wires) (ways_from types 0 0 (take i kinds)) (ways_in i (pip_count types (take i kinds)) (pips_of_type types (get_or kinds i 0))) (nodes_before wires types kinds count i have (omega arith))
+    (tile_has_nodes wires (get_or wires i []) i (pip_count types (take i kinds)) (pips_of_type types (get_or kinds i 0)) at_wires (have.within i (get_or kinds i 0) (get_or wires i []) at_kind at_wires))))
   where
     next : i + 1 ≡ suc i
     next = omega arith

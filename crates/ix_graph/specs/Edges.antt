@@ -6,7 +6,7 @@ use Rattle.ix_rows.specs.declared.rows.Rows.{Rows}
 use Rattle.ix_graph.specs.declared.type_pips.TilePip.{TilePip}
 use Rattle.ix_graph.specs.declared.edges.Edge.{Edge}
 use Rattle.ix_graph.specs.Nodes.{AreBelow}
-use Rattle.ix_graph.specs.Pips.{DirectedPip, enters_at, leaves_at, ways, ways_in, pips_of_type}
+use Rattle.ix_graph.specs.Pips.{DirectedPip, enters_at, leaves_at, pips_of_type}
 use Rattle.ix_graph.specs.Graph.{is_node, goes_from, edge}
 
 -- an edge as it is told

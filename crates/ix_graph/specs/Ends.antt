@@ -41,9 +41,9 @@ bel_pin_ends rec bel pin site t = option_and_then (λ p. both (wire_at rec site 
 
 -- An output site pin goes from its site wire to its node, an input site pin the other way; an inout site pin has no ends.
 abbrev pub crossing : Direction → (wire node : Option Res) → Option (Res × Res)
-crossing Output wire node = both wire node
-crossing Input wire node = both node wire
-crossing Inout wire node = None
+crossing Output wire pin_node = both wire pin_node
+crossing Input wire pin_node = both pin_node wire
+crossing Inout wire pin_node = None
 
 -- the ends of the site pin of this number, which is p
 abbrev pub pin_crossing : DeviceRec → (site t pin : ℕ) → SitePinSeen → Option (Res × Res)

@@ -4,7 +4,7 @@ use Rattle.std.specs.List.{find}
 use Rattle.ix_rec.specs.declared.device.DeviceRec.{DeviceRec}
 use Rattle.ix_device.specs.Lookups.{wire_in_tile}
 use Rattle.ix_graph.specs.Pips.{DirectedPip}
-use Rattle.ix_graph.specs.Graph.{Graph, graph_of}
+use Rattle.ix_graph.specs.Graph.{graph_of}
 use Rattle.ix_graph.specs.Tables.{joins_at}
 
 -- The first directed PIP of a tile between its wires of these names that goes this way. The names are those of the PIP's

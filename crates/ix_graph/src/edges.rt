@@ -101,12 +101,7 @@ fn fill_pip(filler: &mut RowFiller<Edge>, number: u32, pip: TilePip, nodes: &Ite
 }
 
 // Puts the ways of a tile's PIPs, of which the first has this number.
-fn fill_tile(
-    filler: &mut RowFiller<Edge>,
-    first: u32,
-    pips: &Items<TilePip>,
-    nodes: &Items<NodeId>,
-)
+fn fill_tile(filler: &mut RowFiller<Edge>, first: u32, pips: &Items<TilePip>, nodes: &Items<NodeId>)
     requires within { AreWithin (length nodes.now) pips.now }
     requires below { AreBelow (filler_rows filler.now) nodes.now }
     requires few { 2 * (first + length pips.now) < 2 ^ 32 }

@@ -49,10 +49,7 @@ fn bel_pin_ends(
     ensures { result ≡ bel_pin_ends_seen device.now bel pin site t }
 {
     let pin = bel_pin_named(device, t, bel, pin)?;
-    both(
-        wire_at(device, site, t, pin),
-        wire_at(device, site, t, pin),
-    )
+    both(wire_at(device, site, t, pin), wire_at(device, site, t, pin))
 }
 
 // A site PIP goes from the site wire of its input pin to that of its output pin.
@@ -68,10 +65,7 @@ fn site_pip_ends(
 {
     let from = bel_pin_named(device, t, bel, pin)?;
     let to = device.site_pip(t, from)?;
-    both(
-        wire_at(device, site, t, from),
-        wire_at(device, site, t, to),
-    )
+    both(wire_at(device, site, t, from), wire_at(device, site, t, to))
 }
 
 impl NodeGraph {
@@ -116,13 +110,7 @@ impl NodeGraph {
         ensures { result ≡ named_pip_ends_seen device.now segment.now.first segment.now.second segment.now.third segment.now.forward }
     {
         let tile = device.tile(segment.first)?;
-        let pip = self.pip_named(
-            device,
-            tile,
-            segment.second,
-            segment.third,
-            segment.forward,
-        )?;
+        let pip = self.pip_named(device, tile, segment.second, segment.third, segment.forward)?;
         let (from, to) = self.pip_ends(pip);
         Some((Res::Node(from), Res::Node(to)))
     }

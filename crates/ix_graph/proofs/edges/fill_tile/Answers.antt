@@ -22,11 +22,11 @@ fill_pip-requires-clause-room c =
     λ n. room_next told c.args.nodes.now n 0 c.args.first c.args.pips.now c.loop-i.i c.at.result.now (row_in c.args.filler.now n) (row_in c.loop-i.filler n) (room_in c.args.filler.now n) (room_in c.loop-i.filler n) c.at.ensures (c.loop-i.invariant.0 0 n) (c.requires.room n) (c.loop-i.invariant.1 n)
 
 pub loop-i-preserved : goal.loop-i-preserved
-loop-i-preserved c =
-    ( λ tile n. one_more_edge c.args.nodes.now n tile c.args.first c.args.pips.now c.loop-i.i c.at.result.now _ _ _ c.at.ensures (c.loop-i.invariant.0 tile n) (c.fill_pip.ensures.edges tile n)
-    , λ n. c.fill_pip.ensures.room n ∙ c.loop-i.invariant.1 n
-    , c.fill_pip.ensures.rows ∙ c.loop-i.invariant.2
-    )
+loop-i-preserved c = (
+  λ tile n. one_more_edge c.args.nodes.now n tile c.args.first c.args.pips.now c.loop-i.i c.at.result.now _ _ _ c.at.ensures (c.loop-i.invariant.0 tile n) (c.fill_pip.ensures.edges tile n),
+  λ n. c.fill_pip.ensures.room n ∙ c.loop-i.invariant.1 n,
+  c.fill_pip.ensures.rows ∙ c.loop-i.invariant.2,
+)
 
 pub returns-clause-edges : goal.returns-clause-edges
 returns-clause-edges c =

@@ -1,4 +1,4 @@
-use Rattle.std.proofs.Common.{◌≡◌, ◌≤◌, ◌+◌, ◌++◌, ℕ, take, map}
+use Rattle.std.proofs.Common.{◌≡◌, ◌++◌, ℕ, take, map}
 use Rattle.ix_rows.specs.Rows.{filler_rows, room_in, row_in}
 use Rattle.ix_graph.specs.Pips.{ways_in}
 use Rattle.ix_graph.specs.Edges.{told, edges_out}

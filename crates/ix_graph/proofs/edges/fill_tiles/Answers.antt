@@ -1,10 +1,9 @@
-use Rattle.std.proofs.Common.{◌≡◌, ◌≤◌, ◌<◌, ◌+◌, ◌*◌, ◌^◌, ◌∙◌, ap, refl, sym, subst, List, [], length, map, take, unwrap_or, slice_get, arith}
+use Rattle.std.proofs.Common.{◌≡◌, ◌≤◌, ◌<◌, ◌+◌, ◌*◌, ◌^◌, ◌∙◌, ap, refl, sym, subst, [], length, map, take, unwrap_or, arith}
 use Rattle.std.specs.List.{filter}
-use Rattle.std.proofs.lemmas.List.{length-map, take_all}
+use Rattle.std.proofs.lemmas.List.{length-map}
 use Rattle.std.proofs.lemmas.Option.{same_Some}
 use Rattle.ix_device.proofs.Walks.{at_place}
-use Rattle.ix_rows.specs.Rows.{row_in, room_in, filler_rows, row_count, size_of, total_size}
-use Rattle.ix_graph.specs.declared.type_pips.TilePip.{TilePip}
+use Rattle.ix_rows.specs.Rows.{row_in, room_in}
 use Rattle.ix_graph.specs.Pips.{ways_from, pips_of_type}
 use Rattle.ix_graph.specs.Graph.{goes_from, edge}
 use Rattle.ix_graph.specs.Tables.{pip_count}
@@ -35,7 +34,7 @@ fill_tile-requires-clause-few c =
     let kinds = c.args.pips.now.kinds in
     let first : c.at-first.result.now ≡ pip_count types (take c.loop-tile.tile kinds) = same_Some _ _ (sym c.at-first.ensures ∙ c.requires.tables.starts.each c.loop-tile.tile (omega arith)) in
     let next : pip_count types (take (c.loop-tile.tile + 1) kinds) ≡ pip_count types (take c.loop-tile.tile kinds) + length (pips_of_type types c.at.result.now)
-        = count_next types kinds c.loop-tile.tile c.at.result.now c.at.ensures in
+    = count_next types kinds c.loop-tile.tile c.at.result.now c.at.ensures in
     let here : length (pips_of_type types c.at.result.now) ≡ length c.at-in-loop-tile.result.now = ap (λ o. length (unwrap_or o [])) c.at-in-loop-tile.ensures in
     let all : pip_count types (take (c.loop-tile.tile + 1) kinds) ≤ pip_count types kinds = some_pips types kinds (c.loop-tile.tile + 1) in
     let few : 2 * pip_count types kinds < 2 ^ 32 = c.requires.tables.starts.few in
@@ -44,14 +43,14 @@ fill_tile-requires-clause-few c =
 pub fill_tile-requires-clause-room : goal.fill_tile-requires-clause-room
 fill_tile-requires-clause-room c =
     λ n. subst (λ xs. length (row_in c.loop-tile.filler n) + all_outs c.at-in-loop-tile-2.result.now n xs ≤ room_in c.loop-tile.filler n) (ap (λ o. unwrap_or o []) c.at-in-loop-tile.ensures)
-        (tile_room c.args.wires.now c.args.pips.now.types c.args.pips.now.kinds c.loop-tile.tile c.at.result.now c.at-in-loop-tile-2.result.now c.at.ensures c.at-in-loop-tile-2.ensures n (room_in c.loop-tile.filler n) (length (row_in c.loop-tile.filler n))
-            (c.loop-tile.invariant.1 n ∙ c.requires.room n)
-            (sym (length-map (row_in c.loop-tile.filler n) told) ∙ ap length (c.loop-tile.invariant.0 n) ∙ length-map (filter (goes_from c.args.wires.now n) (ways_from c.args.pips.now.types 0 0 (take c.loop-tile.tile c.args.pips.now.kinds))) (edge c.args.wires.now)))
+    (tile_room c.args.wires.now c.args.pips.now.types c.args.pips.now.kinds c.loop-tile.tile c.at.result.now c.at-in-loop-tile-2.result.now c.at.ensures c.at-in-loop-tile-2.ensures n (room_in c.loop-tile.filler n) (length (row_in c.loop-tile.filler n))
+    (c.loop-tile.invariant.1 n ∙ c.requires.room n)
+    (sym (length-map (row_in c.loop-tile.filler n) told) ∙ ap length (c.loop-tile.invariant.0 n) ∙ length-map (filter (goes_from c.args.wires.now n) (ways_from c.args.pips.now.types 0 0 (take c.loop-tile.tile c.args.pips.now.kinds))) (edge c.args.wires.now)))
 
 pub loop-tile-preserved : goal.loop-tile-preserved
-loop-tile-preserved c =
-    ( λ n. row_next c.args.wires.now c.args.pips.now.types c.args.pips.now.kinds c.loop-tile.tile c.at.result.now c.at-in-loop-tile-2.result.now c.at.ensures c.at-in-loop-tile-2.ensures n c.at-first.result.now c.at-in-loop-tile.result.now _ _
-        (same_Some _ _ (sym c.at-first.ensures ∙ c.requires.tables.starts.each c.loop-tile.tile (omega arith))) (ap (λ o. unwrap_or o []) c.at-in-loop-tile.ensures) (c.loop-tile.invariant.0 n) (c.fill_tile.ensures.edges c.loop-tile.tile n)
-    , λ n. c.fill_tile.ensures.room n ∙ c.loop-tile.invariant.1 n
-    , c.fill_tile.ensures.rows ∙ c.loop-tile.invariant.2
-    )
+loop-tile-preserved c = (
+  λ n. row_next c.args.wires.now c.args.pips.now.types c.args.pips.now.kinds c.loop-tile.tile c.at.result.now c.at-in-loop-tile-2.result.now c.at.ensures c.at-in-loop-tile-2.ensures n c.at-first.result.now c.at-in-loop-tile.result.now _ _
+      (same_Some _ _ (sym c.at-first.ensures ∙ c.requires.tables.starts.each c.loop-tile.tile (omega arith))) (ap (λ o. unwrap_or o []) c.at-in-loop-tile.ensures) (c.loop-tile.invariant.0 n) (c.fill_tile.ensures.edges c.loop-tile.tile n),
+  λ n. c.fill_tile.ensures.room n ∙ c.loop-tile.invariant.1 n,
+  c.fill_tile.ensures.rows ∙ c.loop-tile.invariant.2,
+)

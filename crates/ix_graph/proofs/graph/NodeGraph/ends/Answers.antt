@@ -1,8 +1,5 @@
-use Rattle.std.proofs.Common.{◌≡◌, ◌∙◌, ap, sym, refl, Option}
-use Rattle.ix_num.specs.declared.resource.Res.{Res}
-use Rattle.ix_rec.specs.declared.device.DeviceRec.{DeviceRec}
-use Rattle.ix_rec.specs.declared.phys.BranchKind.{BranchKind}
-use Rattle.ix_graph.specs.Ends.{of_site, ends_in_site, ends_by, ends}
+use Rattle.std.proofs.Common.{◌∙◌, ap, sym}
+use Rattle.ix_graph.specs.Ends.{ends_by, ends}
 use Rattle.ix_graph.proofs.EndLemmas.{ends_of_others}
 use Rattle.ix_graph.proofs.graph.NodeGraph.ends.Goals as goal
 

@@ -11,8 +11,8 @@ returns c =
     let rec = c.args.device.now in
     let s = c.args.segment.now in
     let inner : option_and_then (ends_at (graph_of rec).wires) (option_and_then (λ t. pip_named rec t s.second s.third s.forward) (tile_named rec s.first)) ≡ Some c.pip_ends-from.result
-        = ap (λ o. option_and_then (ends_at (graph_of rec).wires) (option_and_then (λ t. pip_named rec t s.second s.third s.forward) o)) (sym c.in_ok-tile.ensures.tile)
-        ∙ ap (option_and_then (ends_at (graph_of rec).wires)) (sym c.in_ok-pip.ensures.at)
-        ∙ ap (λ h. option_and_then (ends_at h.wires) (pip_at c.args.self.now c.in_ok-pip.pip)) (sym c.requires.graph)
-        ∙ c.pip_ends-from.ensures.ends in
+    = ap (λ o. option_and_then (ends_at (graph_of rec).wires) (option_and_then (λ t. pip_named rec t s.second s.third s.forward) o)) (sym c.in_ok-tile.ensures.tile)
+    ∙ ap (option_and_then (ends_at (graph_of rec).wires)) (sym c.in_ok-pip.ensures.at)
+    ∙ ap (λ h. option_and_then (ends_at h.wires) (pip_at c.args.self.now c.in_ok-pip.pip)) (sym c.requires.graph)
+    ∙ c.pip_ends-from.ensures.ends in
     sym (ap (option_map {U = Res × Res} (λ ns. (R.Node ns.0, R.Node ns.1))) inner)

@@ -7,4 +7,4 @@ pub node_of-requires : goal.node_of-requires
 unfolding graph_of
 node_of-requires c =
     subst (λ g. IsSome (node_at g.wires c.tile_of.result c.in_ok-wire.wire)) (sym c.requires.graph)
-        (node_there c.args.device.now c.args.site c.args.pin c.tile_of.result c.in_ok-wire.wire (sym c.in_ok-wire.ensures.wire) c.tile_of.ensures c.in_ok-wire.ensures.inside)
+    (node_there c.args.device.now c.args.site c.args.pin c.tile_of.result c.in_ok-wire.wire (sym c.in_ok-wire.ensures.wire) c.tile_of.ensures c.in_ok-wire.ensures.inside)

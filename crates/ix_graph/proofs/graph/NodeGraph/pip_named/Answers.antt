@@ -24,11 +24,11 @@ returns-clause-at c =
     let g = c.self.inside in
     let test = joins_at c.args.tile c.in_ok-wire0.wire0 c.in_ok-wire1.wire1 c.args.forward in
     let here : IfSome c.between.result (λ n. find (λ f. nat_eq f.number n) c.args.self.now.pips ≡ find test c.args.self.now.pips)
-        = subst (λ h. IfSome c.between.result (λ n. find (λ f. nat_eq f.number n) h.pips ≡ find test h.pips)) c.self.view_is
-            (numbered_again (ways_from g.pips.types 0 0 g.pips.kinds) (find test (ways_from g.pips.types 0 0 g.pips.kinds)) c.between.result (λ e h. found_again test g.pips.types g.pips.kinds e h) c.between.ensures) in
+    = subst (λ h. IfSome c.between.result (λ n. find (λ f. nat_eq f.number n) h.pips ≡ find test h.pips)) c.self.view_is
+    (numbered_again (ways_from g.pips.types 0 0 g.pips.kinds) (find test (ways_from g.pips.types 0 0 g.pips.kinds)) c.between.result (λ e h. found_again test g.pips.types g.pips.kinds e h) c.between.ensures) in
     let named : pip_named rec c.args.tile c.args.wire0 c.args.wire1 c.args.forward ≡ find test (graph_of rec).pips
-        = ap (option_and_then (λ a. option_and_then (λ b. find (joins_at c.args.tile a b c.args.forward) (graph_of rec).pips) (wire_in_tile rec c.args.tile c.args.wire1))) (sym c.in_ok-wire0.ensures.wire)
-        ∙ ap (option_and_then (λ b. find (joins_at c.args.tile c.in_ok-wire0.wire0 b c.args.forward) (graph_of rec).pips)) (sym c.in_ok-wire1.ensures.wire) in
+    = ap (option_and_then (λ a. option_and_then (λ b. find (joins_at c.args.tile a b c.args.forward) (graph_of rec).pips) (wire_in_tile rec c.args.tile c.args.wire1))) (sym c.in_ok-wire0.ensures.wire)
+    ∙ ap (option_and_then (λ b. find (joins_at c.args.tile c.in_ok-wire0.wire0 b c.args.forward) (graph_of rec).pips)) (sym c.in_ok-wire1.ensures.wire) in
     subst (λ o. IfSome c.between.result (λ n. pip_at c.args.self.now n ≡ o)) (ap (λ h. find test h.pips) c.requires.graph ∙ sym named) here
 
 pub returns-clause-there : goal.returns-clause-there
@@ -36,4 +36,4 @@ returns-clause-there c =
     let g = c.self.inside in
     let test = joins_at c.args.tile c.in_ok-wire0.wire0 c.in_ok-wire1.wire1 c.args.forward in
     subst (λ h. IfSome c.between.result (λ n. IsSome (pip_at h n))) c.self.view_is
-        (numbered_there (ways_from g.pips.types 0 0 g.pips.kinds) (find test (ways_from g.pips.types 0 0 g.pips.kinds)) c.between.result (λ e h. found_again test g.pips.types g.pips.kinds e h) c.between.ensures)
+    (numbered_there (ways_from g.pips.types 0 0 g.pips.kinds) (find test (ways_from g.pips.types 0 0 g.pips.kinds)) c.between.result (λ e h. found_again test g.pips.types g.pips.kinds e h) c.between.ensures)

@@ -12,9 +12,8 @@ ghost use Rattle.ix_device.specs.Admission.{pins_differ};
 ghost use Rattle.ix_device.specs.Listed.{listing, names_one, PutsMap, PutsMapping, AreListings};
 ghost use Rattle.ix_device.specs.Premises.{TypesDiffer, FindPins};
 
-use crate::sites::number_of;
 use crate::types::TypeTables;
-use ix_first::FirstByKey;
+use ix_first::{FirstByKey, number_of};
 use ix_keys::Key;
 use ix_num::{BelPinId, Memory, NameId, SiteTypeId};
 use ix_rec::{CellBelMapping, CellBelPinEntry, Items, SiteType, SiteTypeBelEntry};

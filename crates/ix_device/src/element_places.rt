@@ -11,8 +11,7 @@ ghost use Rattle.ix_device.specs.Places.{ArePlaces, place_told, place_of_bel as 
 
 use crate::counts::Counts;
 use crate::filling::put_found;
-use crate::sites::number_of;
-use ix_first::{FirstById, FirstByKey};
+use ix_first::{FirstById, FirstByKey, number_of};
 use ix_keys::Key;
 use ix_num::{Memory, NameId};
 use ix_rec::{Items, LutBel, SiteType, SiteTypeLutElements};

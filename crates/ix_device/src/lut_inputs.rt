@@ -8,9 +8,8 @@ ghost use Rattle.ix_device.specs.Places.{ArePlaces, usable_inputs};
 
 use crate::element_places::{ElementPlace, place_of_bel};
 use crate::filling::put_found;
-use crate::sites::number_of;
 use crate::usable::{Pins, is_usable};
-use ix_first::{FirstById, FirstByKey};
+use ix_first::{FirstById, FirstByKey, number_of};
 use ix_num::Memory;
 use ix_rec::DeviceRec;
 use std::alloc::Global;

@@ -5,8 +5,7 @@ ghost use Rattle.ix_keys.specs.Keys.{name_key};
 ghost use Rattle.ix_first.specs.First.{value_at};
 ghost use Rattle.ix_device.specs.Elements.{differ, is_by_parameter, counts_as_lut, lut_inputs_of};
 
-use crate::sites::number_of;
-use ix_first::FirstByKey;
+use ix_first::{FirstByKey, number_of};
 use ix_keys::Key;
 use ix_num::{Memory, NameId};
 use ix_rec::{DeviceRec, Items, LutCell, LutEquation};

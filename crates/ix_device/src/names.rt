@@ -7,8 +7,8 @@ ghost use Rattle.ix_first.specs.First.{value_at};
 ghost use Rattle.ix_device.specs.Lookups.{tile_named, site_type_number, site_named};
 ghost use Rattle.ix_device.specs.Tables.{AreSites};
 
-use crate::sites::{SiteEntry, number_of};
-use ix_first::FirstByKey;
+use crate::sites::SiteEntry;
+use ix_first::{FirstByKey, number_of};
 use ix_keys::Key;
 use ix_num::{Memory, SiteId, SiteTypeId, TileId};
 use ix_rec::{DeviceRec, Items};

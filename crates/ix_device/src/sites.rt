@@ -5,6 +5,7 @@ ghost use Rattle.std.specs.List.{AllByRecursion};
 ghost use Rattle.ix_rec.specs.Ranges.{IndexesFit};
 ghost use Rattle.ix_device.specs.Tables.{entry_told, told_in, AreSites};
 
+use ix_first::number_of;
 use ix_num::{Memory, NameId, SiteTypeId, TileId};
 use ix_rec::{DeviceRec, Items, Site, TileType};
 use std::alloc::Global;
@@ -47,16 +48,6 @@ fn add_sites(
         })?;
     }
     Ok(())
-}
-
-// The number of a place in a list. Want of memory is answered past 2^32 - 1.
-pub(crate) fn number_of(place: usize) -> Result<u32, Memory>
-    ensures { IfOk result (λ n. n ≡ place) }
-{
-    if place > u32::MAX as usize {
-        return Err(Memory);
-    }
-    Ok(place as u32)
 }
 
 /// The sites of a device, by number.

@@ -8,8 +8,7 @@ ghost use Rattle.ix_rec.specs.declared.device.TileType.{TileType as TypeSeen};
 ghost use Rattle.ix_device.specs.Lookups.{wire_of_type, wire_of_pin as wire_of_pin_seen, wire_in_tile as wire_in_tile_seen, type_of_tile, tile_named, tile_wire_named};
 ghost use Rattle.ix_device.specs.TileWires.{of_type};
 
-use crate::sites::number_of;
-use ix_first::FirstByKey;
+use ix_first::{FirstByKey, number_of};
 use ix_keys::Key;
 use ix_num::{Memory, NameId, SitePinId, TileId};
 use ix_rec::{DeviceRec, Items, TileType};

@@ -8,7 +8,6 @@ mod fault;
 mod fit;
 mod laws;
 mod netlist;
-mod number;
 mod pin_map;
 mod places;
 mod whole;

@@ -6,7 +6,6 @@ use Rattle.ix_message.specs.Message.{reading, encoding, is_too_long}
 use Rattle.ix_message.specs.Phys.{phys_netlist}
 use Rattle.ix_rec.specs.declared.device.DeviceRec.{DeviceRec}
 use Rattle.ix_rec.specs.declared.phys.Phys.{Phys}
-use Rattle.ix_device_read.specs.Named.{DeviceNamed}
 use Rattle.ix_device_rules.specs.Rules.{first_broken}
 use Rattle.ix_phys_write.specs.Record.{phys_record}
 use Rattle.ix_first_fit.specs.declared.cell.Cell.{Cell}
@@ -20,11 +19,10 @@ use Rattle.ix_flow.specs.declared.answer.Judged.{Judged}
 use Rattle.ix_flow.specs.declared.answer.Judged.TheVariants.{Valid, Broken}
 use Rattle.ix_flow.specs.Answer.{IsRead, BreaksDevice, implemented}
 
--- it is read as a device that breaks no rule, its names among these
+-- it is read as a device that breaks no rule
 pub record IsDeviceOf (all : Segments) (names : List Text) (rec : DeviceRec) : Type 0 where
   pub read : IsRead all names rec
   pub valid : first_broken rec ≡ None
-  pub named : DeviceNamed (length names) rec
 
 abbrev pub IsJudgedSo : Segments → List Text → Judged → Type 0
 IsJudgedSo all names (Valid device) = IsDeviceOf all names device

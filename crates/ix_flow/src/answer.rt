@@ -19,6 +19,7 @@ ghost use Rattle.std.specs.List.{AllByRecursion};
 use ix_capw::BuildFault;
 use ix_device::{Device, DeviceFault};
 use ix_device_read::read_device;
+use ix_first::number_of;
 use ix_first_fit::{Cell, FitFault, first_fit};
 use ix_first_form::read_first_form;
 use ix_frame::Frame;
@@ -206,16 +207,6 @@ fn written(alloc: Global, phys: &Phys, names: &Names, cells: usize) -> Result<An
         Err(BuildFault::TooLong) => Ok(Answer::TooLong),
         Err(BuildFault::Memory) => Err(Memory),
     }
-}
-
-// A number of 32 bits; want of memory is answered past them.
-fn number_of(count: usize) -> Result<u32, Memory>
-    ensures { IfOk result (λ n. n ≡ count) }
-{
-    if count > u32::MAX as usize {
-        return Err(Memory);
-    }
-    Ok(count as u32)
 }
 
 // A name as a word of its own. `Memory` is its only error.

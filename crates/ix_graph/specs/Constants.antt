@@ -15,6 +15,7 @@ use Rattle.ix_graph.specs.Nodes.{is_wire, wires_of_node}
 abbrev pub entry_lists : Constant → ℕ → WireConstantSources → Bool
 entry_lists c w s = is_constant c s.constant && list_any (nat_eq w) s.wires
 
+-- one of the entries of a tile type does
 abbrev pub type_lists : Constant → ℕ → TileType → Bool
 type_lists c w ty = list_any (entry_lists c w) ty.constants
 
@@ -22,6 +23,7 @@ type_lists c w ty = list_any (entry_lists c w) ty.constants
 abbrev pub is_listed : DeviceRec → Constant → ℕ × ℕ → Bool
 is_listed rec c w = unwrap_or (option_map (type_lists c w.1) (type_of_tile rec w.0)) false
 
+-- a tile wire that may be there is this one
 abbrev pub is_this : ℕ × ℕ → Option (ℕ × ℕ) → Bool
 is_this w None = false
 is_this w (Some v) = is_wire w v
@@ -30,6 +32,7 @@ is_this w (Some v) = is_wire w v
 abbrev pub source_names : DeviceRec → Constant → ℕ × ℕ → NodeConstantSource → Bool
 source_names rec c w s = is_constant c s.constant && is_this w (tile_wire_named rec s.tile s.wire)
 
+-- one of the node sources does
 abbrev pub is_named : DeviceRec → Constant → ℕ × ℕ → Bool
 is_named rec c w = list_any (source_names rec c w) (node_sources_of rec)
 

@@ -24,9 +24,11 @@ wires_from rec tile (t ∷ ts) = wires_in tile (wire_count rec t) ++ wires_from 
 abbrev pub tile_wires : DeviceRec → List (ℕ × ℕ)
 tile_wires rec = wires_from rec 0 rec.tile_list
 
+-- two tile wires are one
 abbrev pub is_wire : ℕ × ℕ → ℕ × ℕ → Bool
 is_wire v w = nat_eq v.0 w.0 && nat_eq v.1 w.1
 
+-- a tile wire is one of these
 abbrev pub has_wire : ℕ × ℕ → List (ℕ × ℕ) → Bool
 has_wire w ws = list_any (is_wire w) ws
 
@@ -34,14 +36,15 @@ has_wire w ws = list_any (is_wire w) ws
 abbrev pub wire_listed : DeviceRec → ℕ → Option (ℕ × ℕ)
 wire_listed rec i = option_and_then (λ w. tile_wire_named rec w.tile w.wire) (slice_get rec.wires i)
 
--- the tile wires of an entry of the device's list of nodes
+-- the tile wires of an entry of the device's list of nodes, in its order; in a valid device each of its wires is one
 abbrev pub entry_wires : DeviceRec → Node → List (ℕ × ℕ)
 entry_wires rec n = filter_map (wire_listed rec) n.wires
 
+-- there is one
 abbrev pub has_some : List (ℕ × ℕ) → Bool
 has_some ws = nat_lt 0 (length ws)
 
--- the entries that have a wire
+-- the entries that have a wire; the others take no number
 unfoldable pub entries : DeviceRec → List (List (ℕ × ℕ))
 entries rec = filter has_some (map (entry_wires rec) rec.nodes)
 
@@ -53,11 +56,11 @@ is_alone rec w = not (list_any (has_wire w) (entries rec))
 unfoldable pub nodes : DeviceRec → List (List (ℕ × ℕ))
 nodes rec = entries rec ++ map (λ w. w ∷ []) (filter (is_alone rec) (tile_wires rec))
 
--- the node of a tile wire
+-- the node of a tile wire: the first that has it (in a valid device no other has)
 abbrev pub node_of : DeviceRec → ℕ × ℕ → ℕ
 node_of rec w = position_or_len (has_wire w) (nodes rec)
 
--- the first wire of each node
+-- the first wire of each node, in the entry's own order
 unfoldable pub first_wires : DeviceRec → List (ℕ × ℕ)
 first_wires rec = flat_map (take 1) (nodes rec)
 
@@ -66,7 +69,7 @@ unfoldable pub nodes_from : DeviceRec → ℕ → List Tile → List (List ℕ)
 nodes_from rec tile [] = []
 nodes_from rec tile (t ∷ ts) = map (node_of rec) (wires_in tile (wire_count rec t)) ∷ nodes_from rec (tile + 1) ts
 
--- The wires of the node of this number: a tile wire is in one node.
+-- The wires of the node of this number, each once, by tile and wire. In a valid device they are those of `nodes` at it.
 unfoldable pub wires_of_node : DeviceRec → ℕ → List (ℕ × ℕ)
 wires_of_node rec n = filter (λ w. nat_eq (node_of rec w) n) (tile_wires rec)
 

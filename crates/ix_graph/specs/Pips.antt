@@ -1,15 +1,17 @@
--- The conventional PIPs of a device, and the directed PIPs that they give.
+-- The conventional PIPs of a device, and the directed PIPs that they give. They are counted by tile and by place in the
+-- tile's type; one that needs pseudo cells isn't counted, and no net goes by it.
 use Rattle.std.specs.Prelude.{ℕ, ◌+◌, ◌*◌, List, [], ◌∷◌, ◌++◌, length, slice_get, Bool, true, false, unwrap_or, if◌then◌else◌}
 use Rattle.ix_rec.specs.declared.device.Pip.{Pip}
 use Rattle.ix_rec.specs.declared.device.PipKind.{PipKind}
 use Rattle.ix_rec.specs.declared.device.PipKind.TheVariants.{Conventional, PseudoCells}
 use Rattle.ix_graph.specs.declared.type_pips.TilePip.{TilePip}
 
+-- a PIP doesn't need pseudo cells
 abbrev pub is_conventional : PipKind → Bool
 is_conventional Conventional = true
 is_conventional PseudoCells = false
 
--- a PIP with its place in the list of its tile type
+-- a PIP with its place in the list of its tile type, where those that need pseudo cells count too
 abbrev pub tile_pip : ℕ → Pip → TilePip
 tile_pip place p = record { place = place; wire0 = p.wire0; wire1 = p.wire1; directional = p.directional }
 
@@ -18,6 +20,7 @@ unfoldable pub conventional_from : ℕ → List Pip → List TilePip
 conventional_from place [] = []
 conventional_from place (p ∷ ps) = if is_conventional p.kind then tile_pip place p ∷ conventional_from (place + 1) ps else conventional_from (place + 1) ps
 
+-- the conventional ones of a tile type's
 abbrev pub conventional : List Pip → List TilePip
 conventional ps = conventional_from 0 ps
 
@@ -35,6 +38,7 @@ enters_at e = if e.forward then e.pip.wire0 else e.pip.wire1
 abbrev pub leaves_at : DirectedPip → ℕ
 leaves_at e = if e.forward then e.pip.wire1 else e.pip.wire0
 
+-- the directed PIP of this number
 abbrev pub directed_pip : (number tile : ℕ) → TilePip → Bool → DirectedPip
 directed_pip number tile pip forward = record { number = number; tile = tile; pip = pip; forward = forward }
 

@@ -22,5 +22,6 @@ half_perimeter places = extent (map (λ p. p.0) places) + extent (map (λ p. p.1
 abbrev pub span : DeviceRec → ℕ → ℕ
 span rec n = half_perimeter (places_of_node rec n)
 
+-- the greatest of these numbers, 0 of none
 abbrev pub greatest : List ℕ → ℕ
 greatest xs = fold max 0 xs

@@ -1,16 +1,18 @@
 //! The node graph of a device, and what it tells.
 
-ghost use Rattle.std.specs.Prelude.{◌≡◌, ◌<◌, length, slice_get, Some, IsSome, IfSome, IfOk, option_map, option_and_then};
+ghost use Rattle.std.specs.Prelude.{◌≡◌, ◌<◌, true, nat_eq, ◌≤◌, ℕ, length, slice_get, Some, IsSome, IfSome, IfOk, option_map, option_and_then};
+ghost use Rattle.std.specs.List.{list_any, range_with_len};
 ghost use Rattle.ix_graph.specs.Graph.{graph_of, node_at, edge, ends_at, out_of, pip_at, place_of};
 ghost use Rattle.ix_graph.specs.Named.{pip_named as pip_named_seen};
+ghost use Rattle.ix_graph.specs.Spans.{span};
 
 use crate::constants::constants_of;
 use crate::edges::{Edge, edges_of};
 use crate::nodes::{Nodes, nodes_of};
-use crate::number::number_of;
 use crate::pips::{Pips, pips_of};
 use crate::spans::greatest_span;
 use ix_device::Device;
+use ix_first::number_of;
 use ix_num::{Constant, Memory, NameId, NodeId, PipId, TileId};
 use ix_rec::Items;
 use ix_rows::Rows;
@@ -60,6 +62,8 @@ impl NodeGraph {
     /// `Memory`.
     pub fn build(alloc: Global, device: &Device) -> Result<NodeGraph, Memory>
         ensures graph { IfOk result (λ graph. graph ≡ graph_of device.now) }
+        ensures bounds { IfOk result (λ graph. (n : ℕ) → n < length graph.firsts → span device.now n ≤ graph.span_max) }
+        ensures reached { IfOk result (λ graph. 0 < length graph.firsts → list_any (λ n. nat_eq (span device.now n) graph.span_max) (range_with_len 0 (length graph.firsts)) ≡ true) }
     {
         let Nodes { wires, firsts } = nodes_of(alloc, device)?;
         let count = firsts.len();
@@ -152,7 +156,8 @@ impl NodeGraph {
     }
 
     /// The first directed PIP of a tile that joins the wires of these names and goes forward, or backwards; none exactly
-    /// where there is none. The device is the one from which the graph was built.
+    /// where there is none. Both names are the PIP's own, `wire0` first, also where it goes backwards. The device is the one
+    /// from which the graph was built.
     pub fn pip_named(
         &self,
         device: &Device,

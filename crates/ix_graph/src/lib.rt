@@ -6,7 +6,6 @@ mod edges;
 mod ends;
 mod graph;
 mod nodes;
-mod number;
 mod pips;
 mod spans;
 mod type_pips;

@@ -7,9 +7,8 @@ ghost use Rattle.ix_rec.specs.declared.device.Tile.{Tile as TileSeen};
 ghost use Rattle.ix_graph.specs.Nodes.{is_wire, has_wire, entries, entry_wires, node_of, wires_in, wire_count, nodes, nodes_from, first_wires};
 ghost use Rattle.ix_graph.specs.NodeTables.{number_in, HaveNumbers, wires_before, firsts_with};
 
-use crate::number::number_of;
 use ix_device::Device;
-use ix_first::FirstById;
+use ix_first::{FirstById, number_of};
 use ix_num::{Memory, NodeId, TileId};
 use ix_rec::{Items, Node};
 use std::alloc::Global;

@@ -9,9 +9,8 @@ ghost use Rattle.ix_first.specs.First.{value_at, or_later, or_found};
 ghost use Rattle.ix_graph.specs.Pips.{conventional, pips_of_type, ways_from};
 ghost use Rattle.ix_graph.specs.Tables.{joins, joins_back, goes, joins_at, way_number, pip_count, AreStarts, AreForward, AreBackward, ArePips};
 
-use crate::number::number_of;
 use crate::type_pips::{TilePip, pips_of_types};
-use ix_first::FirstByKey;
+use ix_first::{FirstByKey, number_of};
 use ix_keys::Key;
 use ix_num::{Memory, PipId, TileId};
 use ix_rec::{DeviceRec, Items, Tile};

@@ -3,7 +3,7 @@
 ghost use Rattle.std.specs.Prelude.{◌≡◌, map, IfOk};
 ghost use Rattle.ix_graph.specs.Pips.{is_conventional, conventional};
 
-use crate::number::number_of;
+use ix_first::number_of;
 use ix_num::Memory;
 use ix_rec::{Items, Pip, PipKind, TileType};
 use std::alloc::Global;
@@ -13,9 +13,9 @@ use std::alloc::Global;
 pub(crate) struct TilePip {
     /// Its place in the tile type's list of PIPs.
     pub place: u32,
-    /// The wire at which a signal enters, as a place in the tile type's list of wires.
+    /// The wire at which a signal enters where it goes forward, as a place in the tile type's list of wires.
     pub wire0: u32,
-    /// The wire at which it leaves.
+    /// The wire at which it then leaves.
     pub wire1: u32,
     /// Whether a signal goes only from `wire0` to `wire1`, and not back too.
     pub directional: bool,

@@ -77,7 +77,7 @@ ends_by Pip rec first second third forward = named_pip_ends rec first second thi
 ends_by kind rec first second third forward = of_site rec first (ends_in_site kind rec second third)
 
 -- The ends of a segment, by its kind. It has none where the site, tile, BEL, pin, wire or PIP that it names isn't there,
--- where a pin that it is on is in no site wire, at an inout site pin, at a PIP that is there with pseudo cells alone, or
--- backwards only directional, and at a site PIP that can't be used. `forward` is looked at for PIPs alone.
+-- where a pin that it is on is in no site wire, at an inout site pin, where no conventional PIP of its wires goes this
+-- way, and at a site PIP that can't be used. `forward` is looked at for PIPs alone.
 unfoldable pub ends : DeviceRec → Segment → Option (Res × Res)
 ends rec s = ends_by s.kind rec s.first s.second s.third s.forward

@@ -40,7 +40,7 @@ wire_listed rec i = option_and_then (λ w. tile_wire_named rec w.tile w.wire) (s
 abbrev pub entry_wires : DeviceRec → Node → List (ℕ × ℕ)
 entry_wires rec n = filter_map (wire_listed rec) n.wires
 
--- there is one
+-- a list of tile wires isn't empty
 abbrev pub has_some : List (ℕ × ℕ) → Bool
 has_some ws = nat_lt 0 (length ws)
 

@@ -19,7 +19,7 @@ joins wire0 wire1 x = nat_eq x.wire0 wire0 && nat_eq x.wire1 wire1
 abbrev pub joins_back : (wire0 wire1 : ℕ) → TilePip → Bool
 joins_back wire0 wire1 x = joins wire0 wire1 x && not x.directional
 
--- a PIP goes from the one wire to the other, this way
+-- a PIP joins these wires and goes this way: forward from the first to the second, or backward from the second to the first
 abbrev pub goes : (wire0 wire1 : ℕ) → Bool → TilePip → Bool
 goes wire0 wire1 true x = joins wire0 wire1 x
 goes wire0 wire1 false x = joins_back wire0 wire1 x

@@ -131,9 +131,9 @@ impl NodeGraph {
     }
 
     /// The two ends of a segment; none exactly where it names what isn't there, where its BEL pin, its site pin's BEL pin or
-    /// a pin of its site PIP is in no site wire, at an inout site pin, at a PIP that needs pseudo cells or isn't there this
-    /// way, and where no site PIP leads from its pin, or the first that does is from an inverting pin or of a BEL that isn't
-    /// for routing. The device is the one from which the graph was built.
+    /// a pin of its site PIP is in no site wire, at an inout site pin, where no conventional PIP of its wires goes this way,
+    /// and where no site PIP leads from its pin, or the first that does is from an inverting pin or of a BEL that isn't for
+    /// routing. The device is the one from which the graph was built.
     pub fn ends(&self, device: &Device, segment: &Segment) -> Option<(Res, Res)>
         requires graph { self.now ≡ graph_of device.now }
         ensures { result ≡ ends device.now segment.now }

@@ -26,7 +26,8 @@ use std::marker::Model;
 /// names, by tile and wire. PIPs are numbered by tile and by place in the tile's type, those that need pseudo cells left
 /// out; PIP `p` is the directed PIP `2p`, and `2p + 1` backwards where it isn't directional.
 ///
-/// It keeps 8 bytes a directed PIP, 4 a tile wire, and 13 a node. What it keeps a tile and a tile type is small beside
+/// It keeps 8 bytes a directed PIP, 4 a tile wire, and 13 a node, or up to 8 more where the list of first wires has room
+/// to spare. What it keeps a tile and a tile type is small beside
 /// these, where tiles have more than a few wires and tile types more than a few tiles.
 #[derive(Drop)]
 pub struct NodeGraph {

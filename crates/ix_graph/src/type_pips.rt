@@ -32,7 +32,7 @@ fn is_conventional(kind: PipKind) -> bool
 fn conventional(alloc: Global, pips: &Items<Pip>) -> Result<Items<TilePip>, Memory>
     ensures { IfOk result (λ found. found ≡ conventional pips.now) }
 {
-    let mut found = Items::new(alloc);
+    let mut found = Items::with_capacity(alloc, pips.len())?;
     for i in 0..pips.len() {
         let pip = pips.at(i);
         if is_conventional(pip.kind) {

@@ -1,5 +1,5 @@
 -- A tile wire that has a name has a node.
-use Rattle.std.proofs.Common.{◌≡◌, ◌<◌, refl, subst, sym, ℕ, length, map, slice_get, Some, IsSome, option_and_then}
+use Rattle.std.proofs.Common.{◌≡◌, ◌<◌, refl, subst, sym, ℕ, map, slice_get, Some, IsSome, option_and_then}
 use Rattle.ix_rec.specs.declared.device.DeviceRec.{DeviceRec}
 use Rattle.ix_rec.specs.declared.device.Tile.{Tile}
 use Rattle.ix_device.specs.Lookups.{tile_wire_named}

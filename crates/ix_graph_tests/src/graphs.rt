@@ -236,10 +236,10 @@ fn small_graphs(rt: HostRuntime) -> Result<(), Fail> {
 }
 
 #[test]
-fn graphs_of_slots(rt: HostRuntime) -> Result<(), Fail> {
+fn graphs_of_logic_tiles(rt: HostRuntime) -> Result<(), Fail> {
     let alloc = rt.alloc();
-    let slots = one_clb(alloc)?;
-    check_file(&rt, alloc, &slots, ONE_CLB_TOLD)?;
+    let logic = one_clb(alloc)?;
+    check_file(&rt, alloc, &logic, ONE_CLB_TOLD)?;
     let pads = one_clb_two_iobs(alloc)?;
     check_file(&rt, alloc, &pads, ONE_CLB_TWO_IOBS_TOLD)
 }

@@ -6,7 +6,7 @@ use Rattle.ix_graph.proofs.type_pips.conventional.Goals.{then-is_conventional+in
 
 pub loop-i-init : goal.loop-i-init
 unfolding conventional_from
-loop-i-init c = c.new-found.ensures
+loop-i-init c = c.in_ok-found.ensures
 
 pub loop-i-preserved : goal.loop-i-preserved
 loop-i-preserved c =

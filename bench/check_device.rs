@@ -9,7 +9,7 @@
 mod device;
 mod frame;
 
-use device::{Context, Device, LutBel, LutElement, Name, SiteType, TileType, device};
+use device::{Device, LutBel, LutElement, Name, SiteType, TileType, device_or_exit};
 use frame::open;
 use std::collections::{HashMap, HashSet};
 use std::process::exit;
@@ -351,11 +351,7 @@ fn main() {
     let Ok(bytes) = std::fs::read(path) else { exit(7) };
     let start = Instant::now();
     let Ok(frame) = open(&bytes) else { exit(3) };
-    let mut context = Context::default();
-    let Ok(device) = device(&frame, &mut context) else { exit(3) };
-    if context.bad.is_some() {
-        exit(3);
-    }
+    let (device, _names) = device_or_exit(&frame);
     let read = start.elapsed().as_micros();
     if words.next().is_some() {
         println!("read {read} us");

@@ -5,6 +5,7 @@
 
 use crate::frame::{Fault, Frame, List, Obj, budget, root, u32_in};
 use std::collections::HashMap;
+use std::process::exit;
 
 pub type Name = u32;
 
@@ -320,4 +321,13 @@ pub fn device<'a>(frame: &'a Frame<'a>, c: &mut Context<'a>) -> Read<Device> {
     let lut_cells = each(&luts, 0, c, left, |o, c, left| lut_cell(o, c, left))?;
     let lut_elements = each(&luts, 1, c, left, |o, c, left| lut_elements(o, c, left))?;
     Ok(Device { name, site_types, tile_types, tiles, wires, nodes, cell_map, packages, constants, lut_cells, lut_elements })
+}
+
+/// The record of a device and the names of its context. A device at fault ends the program with status 3.
+pub fn device_or_exit<'a>(frame: &'a Frame<'a>) -> (Device, Context<'a>) {
+    let mut context = Context::default();
+    match device(frame, &mut context) {
+        Ok(device) if context.bad.is_none() => (device, context),
+        _ => exit(3),
+    }
 }

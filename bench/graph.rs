@@ -11,7 +11,7 @@
 mod device;
 mod frame;
 
-use device::{Context, Device, Name, device};
+use device::{Device, Name, device_or_exit};
 use frame::open;
 use std::collections::HashMap;
 use std::process::exit;
@@ -151,11 +151,7 @@ fn main() {
     let Ok(bytes) = std::fs::read(path) else { exit(7) };
     let start = Instant::now();
     let Ok(frame) = open(&bytes) else { exit(3) };
-    let mut context = Context::default();
-    let Ok(device) = device(&frame, &mut context) else { exit(3) };
-    if context.bad.is_some() {
-        exit(3);
-    }
+    let (device, _names) = device_or_exit(&frame);
     print!("read {} us", start.elapsed().as_micros());
     let start = Instant::now();
     let look_ups = look_ups(&device);

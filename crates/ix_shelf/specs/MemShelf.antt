@@ -1,5 +1,5 @@
 -- What a shelf in memory holds.
-use Rattle.std.specs.Prelude.{ℕ, List}
+use Rattle.std.specs.Prelude.{ℕ, List, Option}
 use Rattle.ix_shelf.specs.Shelf.{Files}
 use Rattle.ix_shelf.specs.MemFiles.{files_in}
 use Rattle.ix_shelf.specs.declared.mem_shelf.MemShelf.{MemShelf}
@@ -15,6 +15,14 @@ calls_of shelf = shelf.plan.calls
 -- the numbers of the calls that are to fail
 abbrev pub failing_of : MemShelf → List ℕ
 failing_of shelf = shelf.plan.failing.items
+
+-- the numbers of the calls that take nothing of what they are given
+abbrev pub nothing_of : MemShelf → List ℕ
+nothing_of shelf = shelf.plan.nothing.items
+
+-- how many bytes a call takes or gives at most
+abbrev pub limit_of : MemShelf → Option ℕ
+limit_of shelf = shelf.plan.limit
 
 -- how many reads failed that were to fail
 abbrev pub read_faults_of : MemShelf → ℕ

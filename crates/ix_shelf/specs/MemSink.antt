@@ -1,5 +1,5 @@
 -- What a sink in memory holds.
-use Rattle.std.specs.Prelude.{ℕ, List}
+use Rattle.std.specs.Prelude.{ℕ, List, Option}
 use Rattle.ix_shelf.specs.declared.mem_sink.MemSink.{MemSink}
 
 -- the bytes put so far
@@ -13,6 +13,14 @@ calls_of sink = sink.plan.calls
 -- the numbers of the calls that are to fail
 abbrev pub failing_of : MemSink → List ℕ
 failing_of sink = sink.plan.failing.items
+
+-- the numbers of the calls that take nothing of what they are given
+abbrev pub nothing_of : MemSink → List ℕ
+nothing_of sink = sink.plan.nothing.items
+
+-- how many bytes a call takes or gives at most
+abbrev pub limit_of : MemSink → Option ℕ
+limit_of sink = sink.plan.limit
 
 -- how many calls failed
 abbrev pub faults_of : MemSink → ℕ

@@ -7,6 +7,7 @@
 
 mod disk_shelf;
 mod files;
+mod limit;
 mod mem_files;
 mod mem_shelf;
 mod mem_sink;

@@ -1,6 +1,6 @@
 //! Files in a map.
 
-ghost use Rattle.std.specs.Prelude.{◌≡◌, ◌++◌, [], length, take, drop, option_copied, unwrap_or, Some, IsSome, IsOk, OnOk, OnErr};
+ghost use Rattle.std.specs.Prelude.{◌≡◌, ◌≤◌, ◌++◌, [], length, take, drop, option_copied, unwrap_or, Some, IsSome, IsOk, OnOk, OnErr};
 ghost use Rattle.ix_shelf.specs.Shelf.{with_file};
 ghost use Rattle.ix_shelf.specs.MemFiles.{files_in, given_at};
 
@@ -74,16 +74,17 @@ pub fn add_to_file(
     set_file(alloc, files, name, piece)
 }
 
-/// Copies bytes of a file, from the byte `at` on, to the front of `into`: as many as there is room for and the file has.
-pub fn copy_at(file: &[u8], at: u64, into: &mut [u8]) -> usize
-    ensures given { result ≡ given_at (Some file.now) at (length into.old) }
+/// Copies bytes of a file, from the byte `at` on, to the front of `into`: as many as this room takes and the file has.
+pub fn copy_at(file: &[u8], at: u64, room: usize, into: &mut [u8]) -> usize
+    requires { room ≤ length into.old }
+    ensures given { result ≡ given_at (Some file.now) at room }
     ensures bytes { take result into.new ≡ take result (drop at file.now) }
 {
     if at >= file.len() as u64 {
         return 0;
     }
     let start = at as usize;
-    let size = into.len().min(file.len() - start);
+    let size = room.min(file.len() - start);
     into[..size].copy_from_slice(&file[start..start + size]);
     size
 }

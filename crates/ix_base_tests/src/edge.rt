@@ -1,11 +1,9 @@
-//! The edge to real files and to standard output, and shelves and sinks that take little.
+//! The edge to real files and to standard output.
 
-use crate::odd::{Manner, OddShelf, OddSink};
 use crate::pattern::pattern;
-use ix_shelf::{DiskShelf, FileFault, MemShelf, OutSink, Shelf, read_file, say, write_file};
+use ix_shelf::{DiskShelf, FileFault, OutSink, Shelf, read_file, say, write_file};
 use std::alloc::Global;
 use std::fs;
-use std::process::Abort;
 use std::test::Fail;
 
 /// Writes a real file and reads it again, each by our calls and by the system's.
@@ -68,54 +66,4 @@ fn standard_output(rt: HostRuntime) {
     let mut out = OutSink::new(&rt);
     assert_eq!(rt; say(&mut out, b"a line\n"), Ok(()));
     assert_eq!(rt; say(&mut out, b""), Ok(()));
-}
-
-/// Writes and reads a file on a shelf that takes a byte at a time.
-fn check_slow_shelf(rt: &impl Abort, alloc: Global) -> Result<(), Fail> {
-    let bytes = pattern(alloc, 1000)?;
-    let mut shelf = OddShelf::new(MemShelf::new(alloc), Manner::OneByte);
-    let written = write_file(&mut shelf, "f", bytes.as_slice()).is_ok();
-    assert!(rt; written);
-    let read = read_file(alloc, &mut shelf, "f")?;
-    assert!(rt; read.as_slice() == bytes.as_slice());
-    Ok(())
-}
-
-/// Whether the answer is a fault at writing.
-fn is_write_fault(answer: &Result<(), FileFault>) -> bool {
-    match answer {
-        Ok(()) => false,
-        Err(fault) => *fault == FileFault::Write,
-    }
-}
-
-/// Writes files on a shelf that takes nothing.
-fn check_full_shelf(rt: &impl Abort, alloc: Global) {
-    let mut shelf = OddShelf::new(MemShelf::new(alloc), Manner::Nothing);
-    let none = write_file(&mut shelf, "e", b"").is_ok();
-    assert!(rt; none, "nothing is to be taken");
-    let some = write_file(&mut shelf, "f", b"abc");
-    assert!(rt; is_write_fault(&some));
-    let empty = shelf.file("f") == Some(b"".as_slice());
-    assert!(rt; empty, "the file is made and empty");
-}
-
-/// Puts a line to a sink of this manner: whether it was put, and the bytes that stand there then.
-fn check_sink(rt: &impl Abort, alloc: Global, manner: Manner, put: bool, told: &[u8]) {
-    let mut out = OddSink::new(alloc, manner);
-    let none = say(&mut out, b"").is_ok();
-    assert!(rt; none, "nothing is to be put");
-    let some = say(&mut out, b"a line\n").is_ok();
-    assert!(rt; some == put);
-    assert!(rt; out.bytes() == told);
-}
-
-#[test]
-fn little_taken(rt: HostRuntime) -> Result<(), Fail> {
-    let alloc = rt.alloc();
-    check_slow_shelf(&rt, alloc)?;
-    check_full_shelf(&rt, alloc);
-    check_sink(&rt, alloc, Manner::OneByte, true, b"a line\n");
-    check_sink(&rt, alloc, Manner::Nothing, false, b"");
-    Ok(())
 }

@@ -1,19 +1,13 @@
-//! Tests of the crates at the bottom, against values that were worked out by hand or by another encoder.
+//! Tests of the crates at the bottom: that calls succeed where there is memory, real files and standard output, and printed lines.
 //!
-//! What the contracts of those crates say is proved for all inputs. Tried here is what no contract can say: that the
-//! definitions are those of the format, that a call succeeds where there is memory, and what is printed. The three
-//! modules that are public serve tests of the crates above too.
+//! What the contracts of those crates say is proved for all inputs. Frames, devices and whole runs are tried by programs that
+//! read their cases from files.
 #![tactic(auto)]
 
 #[cfg(test)]
 mod edge;
 #[cfg(test)]
-mod frame_cases;
-#[cfg(test)]
-mod frames;
-pub mod hex;
-pub mod odd;
-pub mod pattern;
+mod pattern;
 #[cfg(test)]
 mod shelves;
 #[cfg(test)]

@@ -1,9 +1,9 @@
 //! Messages that are built, and lines that are printed.
 
-use crate::hex::bytes_of;
 use ix_capw::{At, Builder};
+use ix_cases::bytes_of;
 use ix_rec::{File, Place, Rule, Word};
-use ix_report::{OUT_OF_MEMORY_LINE, Report, USAGE_LINE, line};
+use ix_report::{Report, line};
 use std::alloc::Global;
 use std::process::Abort;
 use std::test::Fail;
@@ -22,63 +22,6 @@ const ROOTS: [(u16, u16, &str); 4] = [
         3,
         "0000000006000000 0000000002000300 0000000000000000 0000000000000000 0000000000000000 0000000000000000 0000000000000000",
     ),
-];
-
-/// The rules, by the words that are printed for them.
-const RULES: [(Rule, &str); 45] = [
-    (Rule::F1, "F1"),
-    (Rule::F2, "F2"),
-    (Rule::F3, "F3"),
-    (Rule::F4, "F4"),
-    (Rule::F5, "F5"),
-    (Rule::F6, "F6"),
-    (Rule::F7, "F7"),
-    (Rule::F8, "F8"),
-    (Rule::F9, "F9"),
-    (Rule::I1, "I1"),
-    (Rule::M1, "M1"),
-    (Rule::M2, "M2"),
-    (Rule::M3, "M3"),
-    (Rule::M4, "M4"),
-    (Rule::M5, "M5"),
-    (Rule::M6, "M6"),
-    (Rule::M7, "M7"),
-    (Rule::N1, "N1"),
-    (Rule::N2, "N2"),
-    (Rule::N3, "N3"),
-    (Rule::N4, "N4"),
-    (Rule::N5, "N5"),
-    (Rule::N6, "N6"),
-    (Rule::N7, "N7"),
-    (Rule::N8, "N8"),
-    (Rule::N9, "N9"),
-    (Rule::N10, "N10"),
-    (Rule::P1, "P1"),
-    (Rule::P2, "P2"),
-    (Rule::P3, "P3"),
-    (Rule::P4, "P4"),
-    (Rule::P5, "P5"),
-    (Rule::L1, "L1"),
-    (Rule::L2, "L2"),
-    (Rule::L3, "L3"),
-    (Rule::L4, "L4"),
-    (Rule::L5, "L5"),
-    (Rule::L6, "L6"),
-    (Rule::L7, "L7"),
-    (Rule::L8, "L8"),
-    (Rule::L9, "L9"),
-    (Rule::L10, "L10"),
-    (Rule::E1, "E1"),
-    (Rule::E2, "E2"),
-    (Rule::E3, "E3"),
-];
-
-/// The files, by the words that are printed for them.
-const FILES: [(File, &str); 4] = [
-    (File::Device, "device"),
-    (File::Design, "design"),
-    (File::Packed, "packed"),
-    (File::Phys, "phys"),
 ];
 
 /// Builds a message of a root alone.
@@ -185,20 +128,6 @@ fn check_faults(rt: &impl Abort, alloc: Global) -> Result<(), Fail> {
     check_line(rt, alloc, &write, "write fault: a b")
 }
 
-/// The lines that name nothing, which are there without memory too.
-fn check_fixed(
-    rt: &impl Abort,
-    alloc: Global,
-    report: &Report,
-    fixed: &[u8],
-    text: &str,
-) -> Result<(), Fail> {
-    check_line(rt, alloc, report, text)?;
-    let printed = line(alloc, report)?;
-    assert!(rt; printed.as_slice() == fixed, "{text}");
-    Ok(())
-}
-
 fn check_roots(rt: &impl Abort, alloc: Global, roots: &[(u16, u16, &str)]) -> Result<(), Fail> {
     for (words, pointers, hex) in roots {
         check_root(rt, alloc, *words, *pointers, hex)?;
@@ -231,40 +160,6 @@ fn check_done(rt: &impl Abort, alloc: Global) -> Result<(), Fail> {
     check_line(rt, alloc, &some, some_line)
 }
 
-/// The line of a file that breaks a rule.
-fn check_rule(
-    rt: &impl Abort,
-    alloc: Global,
-    file: File,
-    rule: Rule,
-    text: &str,
-) -> Result<(), Fail> {
-    let report = Report::Bad {
-        file,
-        rule,
-        place: Place::File,
-    };
-    check_line(rt, alloc, &report, text)
-}
-
-fn check_rules(rt: &impl Abort, alloc: Global, rules: &[(Rule, &str)]) -> Result<(), Fail> {
-    for (rule, name) in rules {
-        let text = format!(in alloc; "device: {name} at file")?;
-        check_rule(rt, alloc, File::Device, *rule, text.as_str())?;
-    }
-    Ok(())
-}
-
-fn check_files(rt: &impl Abort, alloc: Global, files: &[(File, &str)]) -> Result<(), Fail> {
-    for (file, name) in files {
-        let bad = format!(in alloc; "{name}: I1 at file")?;
-        check_rule(rt, alloc, *file, Rule::I1, bad.as_str())?;
-        let unbuilt = format!(in alloc; "not built yet: {name}")?;
-        check_line(rt, alloc, &Report::NotBuilt(*file), unbuilt.as_str())?;
-    }
-    Ok(())
-}
-
 #[test]
 fn messages(rt: HostRuntime) -> Result<(), Fail> {
     check_roots(&rt, rt.alloc(), &ROOTS)
@@ -277,14 +172,7 @@ fn lines(rt: HostRuntime) -> Result<(), Fail> {
     check_named_places(&rt, alloc)?;
     check_other_places(&rt, alloc)?;
     check_faults(&rt, alloc)?;
-    check_fixed(&rt, alloc, &Report::Usage, USAGE_LINE, "bad words")?;
-    let memory = Report::OutOfMemory;
-    check_fixed(&rt, alloc, &memory, OUT_OF_MEMORY_LINE, "out of memory")?;
+    check_line(&rt, alloc, &Report::Usage, "bad words")?;
+    check_line(&rt, alloc, &Report::OutOfMemory, "out of memory")?;
     check_done(&rt, alloc)
-}
-
-#[test]
-fn words_of_rules(rt: HostRuntime) -> Result<(), Fail> {
-    check_rules(&rt, rt.alloc(), &RULES)?;
-    check_files(&rt, rt.alloc(), &FILES)
 }

@@ -54,7 +54,13 @@ fn put_followed(
     let mut budget = Budget::new(frame);
     spend(probe, &mut budget, number(field(line, 3)));
     match frame.root(&mut budget) {
-        Ok(root) => put_found(text, field(line, 1), &root, number(field(line, 2)), &mut budget)?,
+        Ok(root) => put_found(
+            text,
+            field(line, 1),
+            &root,
+            number(field(line, 2)),
+            &mut budget,
+        )?,
         Err(fault) => write!(text, "{fault}")?,
     }
     text.push_str(", ")?;

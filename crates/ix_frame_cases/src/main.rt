@@ -11,8 +11,7 @@ mod found;
 
 use crate::answer::answer_to;
 use ix_cases::is_case;
-use std::fs;
-use std::io;
+use std::{fs, io};
 
 fn main(rt: HostRuntime) -> io::Result<()> {
     let cases = fs::read_to_string(&rt, "frames")?;

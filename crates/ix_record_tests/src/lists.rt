@@ -1,6 +1,6 @@
 //! Lists and trees.
 
-use ix_rec::{Bytes, Forest, Items, Word};
+use ix_rec::{Forest, Items};
 use std::alloc::Global;
 use std::process::Abort;
 use std::test::Fail;
@@ -98,16 +98,4 @@ fn items(rt: HostRuntime) -> Result<(), Fail> {
     let mut vector = Vec::new(alloc);
     vector.push(5)?;
     check_items(&rt, alloc, &Items::from_vec(vector), &[5])
-}
-
-#[test]
-fn texts(rt: HostRuntime) -> Result<(), Fail> {
-    let alloc = rt.alloc();
-    let word = Word::new(alloc, "a b")?;
-    assert_eq!(rt; word.as_str(), "a b");
-    let mut vector = Vec::new(alloc);
-    vector.push(5u8)?;
-    let bytes = Bytes::new(vector);
-    assert!(rt; bytes.as_slice() == [5].as_slice());
-    Ok(())
 }

@@ -1,7 +1,10 @@
+-- What `run` says to its callers.
 pub mod Words
-pub mod WordsView
 pub mod Answer
 pub mod Status
 pub mod Run
+
+-- For private contracts and proofs.
+pub mod WordsView
 pub mod Steps
 pub mod Judged

@@ -1,0 +1,6 @@
+pub mod Counting
+pub mod Views
+pub mod Walks
+pub mod Keeping
+pub mod Sharing
+pub mod Ending

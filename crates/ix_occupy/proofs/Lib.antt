@@ -4,3 +4,5 @@ pub mod Walks
 pub mod Keeping
 pub mod Sharing
 pub mod Ending
+pub mod Holding
+pub mod Replaying

@@ -27,7 +27,7 @@ times_more n ns i h = sum_by_more (λ other. hit other n) ns i 0 h
 pub none_before : (ns : List ℕ) (i : ℕ) → i < length ns → times (get_or ns i 0) ns ≤ 1 → times (get_or ns i 0) (take i ns) ≡ 0
 none_before ns i h few =
     let more : times (get_or ns i 0) (take i ns) + hit (get_or ns i 0) (get_or ns i 0) ≤ times (get_or ns i 0) ns =
-        sum_by_more_le (λ other. hit other (get_or ns i 0)) ns i 0 h in
+    sum_by_more_le (λ other. hit other (get_or ns i 0)) ns i 0 h in
     let own : hit (get_or ns i 0) (get_or ns i 0) ≡ 1 = one_self (get_or ns i 0) in
     omega arith
 
@@ -35,7 +35,7 @@ none_before ns i h few =
 pub some_times : (ns : List ℕ) (i : ℕ) → i < length ns → 0 < times (get_or ns i 0) ns
 some_times ns i h =
     let at : hit (get_or ns i 0) (get_or ns i 0) ≤ times (get_or ns i 0) ns =
-        get_or-le-sum_by (λ other. hit other (get_or ns i 0)) ns i 0 h in
+    get_or-le-sum_by (λ other. hit other (get_or ns i 0)) ns i 0 h in
     let own : hit (get_or ns i 0) (get_or ns i 0) ≡ 1 = one_self (get_or ns i 0) in
     omega arith
 

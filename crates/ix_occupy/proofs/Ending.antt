@@ -49,11 +49,11 @@ ends_all before now touched capacity sharing kept ends node = by (cases_lt 0 (ti
 pub count_same : (p : NodeLoad → Bool) (xs ys : List NodeLoad) → length xs ≡ length ys → ((node : ℕ) → p (kept_at xs node) ≡ p (kept_at ys node)) → count_by p xs ≡ count_by p ys
 count_same p xs ys same each =
     let lists : map p xs ≡ map p ys =
-        ext_get_or false (map p xs) (map p ys) (length-map xs p ∙ (same ∙ sym (length-map ys p)))
-        (λ i inside.
-            let in_xs : i < length xs = omega (arith, length-map xs p) in
-            let in_ys : i < length ys = omega (arith, same) in
-            get_or-map p xs i blank false in_xs ∙ (each i ∙ sym (get_or-map p ys i blank false in_ys))) in
+    ext_get_or false (map p xs) (map p ys) (length-map xs p ∙ (same ∙ sym (length-map ys p)))
+    (λ i inside.
+    let in_xs : i < length xs = omega (arith, length-map xs p) in
+    let in_ys : i < length ys = omega (arith, same) in
+    get_or-map p xs i blank false in_xs ∙ (each i ∙ sym (get_or-map p ys i blank false in_ys))) in
     sym (count_map (λ (b : Bool). b) p xs) ∙ (ap (count_by (λ (b : Bool). b)) lists ∙ count_map (λ (b : Bool). b) p ys)
 
 pub kept_end : (before now : List NodeLoad) (touched : List ℕ) (capacity sharing : ℕ) → IsKept before touched capacity sharing → EndsAt before now touched
@@ -82,11 +82,11 @@ ends_round view before now touched capacity sharing e kept ends = record {
   nodes = length-map now load_of ∙ (ends.nodes ∙ sym (length_seen view before e));
   holders = λ n. holder_count-view now n ∙ (ap (λ (l : NodeLoad). l.holders) (all n) ∙ (at_end-holders (kept_at before n) ∙ sym (holders_seen view before n e)));
   shared = λ n many.
-    let held : 2 ≤ (kept_at before n).holders = omega (arith, holders_seen view before n e) in
-    hist_at-view now n ∙ (ap (λ (l : NodeLoad). l.hist) (all n) ∙ (at_end-many (kept_at before n) held ∙ ap (λ (h : ℕ). min (h + 1) most_hist) (sym (hist_seen view before n e))));
+      let held : 2 ≤ (kept_at before n).holders = omega (arith, holders_seen view before n e) in
+      hist_at-view now n ∙ (ap (λ (l : NodeLoad). l.hist) (all n) ∙ (at_end-many (kept_at before n) held ∙ ap (λ (h : ℕ). min (h + 1) most_hist) (sym (hist_seen view before n e))));
   others = λ n few.
-    let held : (kept_at before n).holders < 2 = omega (arith, holders_seen view before n e) in
-    hist_at-view now n ∙ (ap (λ (l : NodeLoad). l.hist) (all n ∙ at_end-few (kept_at before n) held) ∙ sym (hist_seen view before n e));
+      let held : (kept_at before n).holders < 2 = omega (arith, holders_seen view before n e) in
+      hist_at-view now n ∙ (ap (λ (l : NodeLoad). l.hist) (all n ∙ at_end-few (kept_at before n) held) ∙ sym (hist_seen view before n e));
 }
   where
     all : (n : ℕ) → kept_at now n ≡ at_end (kept_at before n)

@@ -132,7 +132,7 @@ before_ends_push-end (End ∷ later) =
     ∙ ap (λ (lists : List (List Step)). [] ∷ lists) (map-append (λ (steps : List Step). End ∷ steps) (before_ends later) (later ∷ []))
 
 -- a number stands in a list exactly where it is counted
-times-cons : (n m : ℕ) (ns : List ℕ) → times n (m ∷ ns) ≡ hit m n + times n ns
+pub times-cons : (n m : ℕ) (ns : List ℕ) → times n (m ∷ ns) ≡ hit m n + times n ns
 times-cons n m ns = sum_by-cons (λ other. hit other n) m ns
 
 pub contained_times : (ns : List ℕ) (n : ℕ) → Contains ns n → 0 < times n ns
@@ -172,10 +172,10 @@ all_but-length net (m ∷ nets) = by (cases_eq net m) (all_but-length net nets) 
     by (inl e) h count =
         let own : hit m net ≡ 1 = subst (λ (k : ℕ). hit m k ≡ 1) (sym e) (one_self m) in
         let gone : length (cond (not (nat_eq net m)) (m ∷ all_but net nets) (all_but net nets)) ≡ length (all_but net nets) =
-            ap (λ b. length (cond (not b) (m ∷ all_but net nets) (all_but net nets))) (eq-eqb net m e) in
+        ap (λ b. length (cond (not b) (m ∷ all_but net nets) (all_but net nets))) (eq-eqb net m e) in
         omega arith
     by (inr ne) h count =
         let none : hit m net ≡ 0 = none_other m net (λ e. ne (sym e)) in
         let kept : length (cond (not (nat_eq net m)) (m ∷ all_but net nets) (all_but net nets)) ≡ suc (length (all_but net nets)) =
-            ap (λ b. length (cond (not b) (m ∷ all_but net nets) (all_but net nets))) (ne_eqb net m ne) in
+        ap (λ b. length (cond (not b) (m ∷ all_but net nets) (all_but net nets))) (ne_eqb net m ne) in
         omega arith

@@ -1,4 +1,4 @@
--- What a write to one node leaves of what is kept, and of what contracts see.
+-- What contracts see of a write to one node, and that the counts still fit.
 use Rattle.std.proofs.Common.{◌≡◌, ◌≢◌, ◌<◌, ◌≤◌, refl, ap, sym, subst, ◌∙◌, ℕ, zero, suc, ◌+◌, ◌-◌, ◌^◌, Bool, true, false, cond, nat_eq, nat_le, List, [], ◌∷◌, ◌++◌, length, get_or, set, map, get_or-set_other, get_or-set_same, ◌⊎◌, inl, inr, arith}
 use mir.Val.{bool_byte}
 use Rattle.std.specs.List.{count_by}
@@ -44,25 +44,6 @@ sharing_of-add-one n = by (cases_eq n 1) (cases_lt n 2)
         let more : 2 ≤ n + 1 = omega arith in
         omega (arith, sharing_of-many n many, sharing_of-many (n + 1) more)
 
--- one holder fewer makes a node unshared exactly where it had two
-pub sharing_of-sub-one : (n : ℕ) → 0 < n → sharing_of (n - 1) + hit n 2 ≡ sharing_of n
-sharing_of-sub-one n some = by (cases_eq n 2) (cases_lt n 2)
-  where
-    by : (n ≡ 2) ⊎ (n ≡ 2 → ⊥) → (n < 2) ⊎ (2 ≤ n) → sharing_of (n - 1) + hit n 2 ≡ sharing_of n
-    by (inl e) (inl few) = absurd (omega arith)
-    by (inl e) (inr many) =
-        let own : hit n 2 ≡ 1 = subst (λ (m : ℕ). hit m 2 ≡ 1) (sym e) (one_self 2) in
-        let lower : n - 1 < 2 = omega arith in
-        omega (arith, sharing_of-many n many, sharing_of-few (n - 1) lower)
-    by (inr ne) (inl few) =
-        let none : hit n 2 ≡ 0 = none_other n 2 ne in
-        let lower : n - 1 < 2 = omega arith in
-        omega (arith, sharing_of-few n few, sharing_of-few (n - 1) lower)
-    by (inr ne) (inr many) =
-        let none : hit n 2 ≡ 0 = none_other n 2 ne in
-        let more : 2 ≤ n - 1 = omega (arith, ne) in
-        omega (arith, sharing_of-many n many, sharing_of-many (n - 1) more)
-
 -- what contracts see of a write to one node that leaves its history
 pub recounts : (view : List Load) (loads : List NodeLoad) (node place count : ℕ) (new : NodeLoad) → map load_of loads ≡ view
     → node < length view → place ≡ node → new.holders ≡ count → new.hist ≡ (kept_at loads node).hist
@@ -74,9 +55,6 @@ recounts view loads node place count new e inside at is same = record {
   hist = λ other. hist_at-view (set loads place new) other ∙ (hist other (cases_eq other node) ∙ sym (hist_seen view loads other e));
 }
   where
-    in_loads : place < length loads
-    in_loads = omega (arith, length_seen view loads e)
-
     here : kept_at (set loads place new) node ≡ new
     here = subst (λ (n : ℕ). kept_at (set loads place new) n ≡ new) at
         (get_or-set_same loads place new blank (omega (arith, length_seen view loads e)))
@@ -91,65 +69,17 @@ recounts view loads node place count new e inside at is same = record {
         (subst (λ (n : ℕ). kept_at (set loads place new) n ≡ new) at (get_or-set_same loads place new blank (omega (arith, length_seen view loads e)))) ∙ same)
     hist other (inr ne) = ap (λ (l : NodeLoad). l.hist) (get_or-set_other loads place other new blank (λ is'. ne (is' ∙ at)))
 
--- what a write to one node leaves of what is kept
-pub kept_write : (loads : List NodeLoad) (touched touched' : List ℕ) (capacity capacity' sharing sharing' place : ℕ) (load new : NodeLoad)
-    → IsKept loads touched capacity sharing → place < length loads → load ≡ kept_at loads place → capacity ≤ capacity'
-    → (0 < new.holders → new.touched ≡ true)
-    → sharing' + sharing_of load.holders ≡ sharing + sharing_of new.holders
-    → length touched' + touching_of load ≡ length touched + touching_of new
-    → times place touched' ≡ touching_of new
-    → ((n : ℕ) → n ≢ place → times n touched' ≡ times n touched)
-    → IsKept (set loads place new) touched' capacity' sharing'
-kept_write loads touched touched' capacity capacity' sharing sharing' place load new kept inside is room held shared counted once others = record {
-  few = omega (arith, length-set loads place new, kept.few);
-  room = omega (arith, length-set loads place new, kept.room);
-  counted = counts;
-  once = λ n. once-at n (cases_eq n place);
-  held = λ n some. held-at n some (cases_eq n place);
-  shared = sharings;
-}
-  where
-    counts : length touched' ≡ count_by (λ l. l.touched) (set loads place new)
-    counts =
-        let e : count_by (λ l. l.touched) (set loads place new) + touching_of (kept_at loads place) ≡ count_by (λ l. l.touched) loads + touching_of new =
-            count_set (λ (l : NodeLoad). l.touched) loads place new blank inside in
-        let was : touching_of load ≡ touching_of (kept_at loads place) = ap touching_of is in
-        omega (arith, kept.counted)
-
-    sharings : sharing' ≡ count_by (λ l. nat_le 2 l.holders) (set loads place new)
-    sharings =
-        let e : count_by (λ l. nat_le 2 l.holders) (set loads place new) + sharing_of (kept_at loads place).holders ≡ count_by (λ l. nat_le 2 l.holders) loads + sharing_of new.holders =
-            count_set (λ (l : NodeLoad). nat_le 2 l.holders) loads place new blank inside in
-        let was : sharing_of load.holders ≡ sharing_of (kept_at loads place).holders = ap (λ (l : NodeLoad). sharing_of l.holders) is in
-        omega (arith, kept.shared)
-
-    once-at : (n : ℕ) → (n ≡ place) ⊎ (n ≡ place → ⊥) → times n touched' ≡ touching_of (kept_at (set loads place new) n)
-    once-at n (inl e) =
-        subst (λ (m : ℕ). times m touched' ≡ touching_of (kept_at (set loads place new) m)) (sym e)
-        (once ∙ ap touching_of (sym (get_or-set_same loads place new blank inside)))
-    once-at n (inr ne) =
-        others n ne ∙ (kept.once n ∙ ap touching_of (sym (get_or-set_other loads place n new blank ne)))
-
-    held-at : (n : ℕ) → 0 < (kept_at (set loads place new) n).holders → (n ≡ place) ⊎ (n ≡ place → ⊥) → (kept_at (set loads place new) n).touched ≡ true
-    held-at n some (inl e) =
-        let here : kept_at (set loads place new) n ≡ new = subst (λ (m : ℕ). kept_at (set loads place new) m ≡ new) (sym e) (get_or-set_same loads place new blank inside) in
-        ap (λ (l : NodeLoad). l.touched) here ∙ held (subst (λ (l : NodeLoad). 0 < l.holders) here some)
-    held-at n some (inr ne) =
-        let there : kept_at (set loads place new) n ≡ kept_at loads n = get_or-set_other loads place n new blank ne in
-        ap (λ (l : NodeLoad). l.touched) there ∙ kept.held n (subst (λ (l : NodeLoad). 0 < l.holders) there some)
-
 -- after one claim more the number of shared nodes still fits
 pub few_shared : (loads : List NodeLoad) (touched : List ℕ) (capacity sharing place : ℕ) (load : NodeLoad)
     → IsKept loads touched capacity sharing → place < length loads → load ≡ kept_at loads place → sharing + hit load.holders 1 < 2 ^ 32
 few_shared loads touched capacity sharing place load kept inside is =
-    let new : NodeLoad = record load { holders = load.holders + 1 } in
     let e : count_by (λ l. nat_le 2 l.holders) (set loads place (record load { holders = load.holders + 1 })) + sharing_of (kept_at loads place).holders
-            ≡ count_by (λ l. nat_le 2 l.holders) loads + sharing_of (load.holders + 1) =
-        count_set (λ (l : NodeLoad). nat_le 2 l.holders) loads place (record load { holders = load.holders + 1 }) blank inside in
+    ≡ count_by (λ l. nat_le 2 l.holders) loads + sharing_of (load.holders + 1) =
+    count_set (λ (l : NodeLoad). nat_le 2 l.holders) loads place (record load { holders = load.holders + 1 }) blank inside in
     let was : sharing_of load.holders ≡ sharing_of (kept_at loads place).holders = ap (λ (l : NodeLoad). sharing_of l.holders) is in
     let step : sharing_of (load.holders + 1) ≡ sharing_of load.holders + hit load.holders 1 = sharing_of-add-one load.holders in
     let all : count_by (λ l. nat_le 2 l.holders) (set loads place (record load { holders = load.holders + 1 })) ≤ length (set loads place (record load { holders = load.holders + 1 })) =
-        count_by-le-length (λ (l : NodeLoad). nat_le 2 l.holders) (set loads place (record load { holders = load.holders + 1 })) in
+    count_by-le-length (λ (l : NodeLoad). nat_le 2 l.holders) (set loads place (record load { holders = load.holders + 1 })) in
     omega (arith, kept.shared, kept.few, length-set loads place (record load { holders = load.holders + 1 }))
 
 -- where a node was never touched there is room for it among the touched
@@ -157,11 +87,11 @@ pub room_for : (loads : List NodeLoad) (touched : List ℕ) (capacity sharing pl
     → IsKept loads touched capacity sharing → place < length loads → load ≡ kept_at loads place → load.touched ≡ false → length touched < capacity
 room_for loads touched capacity sharing place load kept inside is fresh =
     let e : count_by (λ l. l.touched) (set loads place (record load { touched = true })) + touching_of (kept_at loads place) ≡ count_by (λ l. l.touched) loads + 1 =
-        count_set (λ (l : NodeLoad). l.touched) loads place (record load { touched = true }) blank inside in
+    count_set (λ (l : NodeLoad). l.touched) loads place (record load { touched = true }) blank inside in
     let was : touching_of load ≡ touching_of (kept_at loads place) = ap touching_of is in
     let none : touching_of load ≡ 0 = as_zero fresh in
     let all : count_by (λ l. l.touched) (set loads place (record load { touched = true })) ≤ length (set loads place (record load { touched = true })) =
-        count_by-le-length (λ (l : NodeLoad). l.touched) (set loads place (record load { touched = true })) in
+    count_by-le-length (λ (l : NodeLoad). l.touched) (set loads place (record load { touched = true })) in
     omega (arith, kept.counted, kept.room, length-set loads place (record load { touched = true }))
   where
     as_zero : load.touched ≡ false → touching_of load ≡ 0

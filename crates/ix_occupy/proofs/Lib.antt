@@ -6,3 +6,4 @@ pub mod Sharing
 pub mod Ending
 pub mod Holding
 pub mod Replaying
+pub mod Checking

@@ -35,8 +35,8 @@ once_push before (Claim net place) may once node other =
             let more : times other (holders before node ++ net ∷ []) ≡ times other (holders before node) + hit net other = times_push other net (holders before node) in
             let own : hit net other ≡ 1 = subst (λ (n : ℕ). hit net n ≡ 1) same (one_self net) in
             elim (cases_lt 0 (times other (holders before node))) [
-              inl some ↦ absurd (may (subst (λ (n : ℕ). Contains (holders before place) n) (sym same) (subst (λ (q : ℕ). Contains (holders before q) other) (sym e) (times_contained (holders before node) other some))))
-            | inr none ↦ omega arith
+              | inl some ↦ absurd (may (subst (λ (n : ℕ). Contains (holders before place) n) (sym same) (subst (λ (q : ℕ). Contains (holders before q) other) (sym e) (times_contained (holders before node) other some))))
+              | inr none ↦ omega arith
             ]
         here (inr differs) =
             let more : times other (holders before node ++ net ∷ []) ≡ times other (holders before node) + hit net other = times_push other net (holders before node) in
@@ -97,13 +97,13 @@ after_claim before nodes net place old new after counts = record {
     by : (node : ℕ) → (node ≡ place) ⊎ (node ≡ place → ⊥) → holder_count new node ≡ length (holders (before ++ Claim net place ∷ []) node)
     by node (inl e) =
         let one : length (holders (before ++ Claim net place ∷ []) node) ≡ length (holders before node) + 1 =
-            ap length (holders_push-claim before net place node ∙ ap (λ (b : Bool). holders before node ++ cond b (net ∷ []) []) (eq-eqb place node (sym e))) ∙ length_push (holders before node) net in
+        ap length (holders_push-claim before net place node ∙ ap (λ (b : Bool). holders before node ++ cond b (net ∷ []) []) (eq-eqb place node (sym e))) ∙ length_push (holders before node) net in
         let was : holder_count old node ≡ length (holders before node) = after.holders node in
         let now : holder_count new node ≡ holder_count old node + 1 = subst (λ (n : ℕ). holder_count new n ≡ holder_count old n + 1) (sym e) counts.changed in
         omega arith
     by node (inr ne) =
         let same : length (holders (before ++ Claim net place ∷ []) node) ≡ length (holders before node) =
-            ap length (holders_push-claim before net place node ∙ (ap (λ (b : Bool). holders before node ++ cond b (net ∷ []) []) (ne_eqb place node (λ e. ne (sym e))) ∙ append-nil (holders before node))) in
+        ap length (holders_push-claim before net place node ∙ (ap (λ (b : Bool). holders before node ++ cond b (net ∷ []) []) (ne_eqb place node (λ e. ne (sym e))) ∙ append-nil (holders before node))) in
         counts.others node ne ∙ (after.holders node ∙ sym same)
 
 -- a release, of a net that holds the node once
@@ -119,7 +119,7 @@ after_release before nodes net place old new after held once counts = record {
     at : holder_count new place ≡ length (holders (before ++ Release net place ∷ []) place)
     at =
         let fewer : length (holders (before ++ Release net place ∷ []) place) ≡ length (all_but net (holders before place)) =
-            ap length (holders_push-release before net place place ∙ ap (λ (b : Bool). cond b (all_but net (holders before place)) (holders before place)) (eq-eqb place place refl)) in
+        ap length (holders_push-release before net place place ∙ ap (λ (b : Bool). cond b (all_but net (holders before place)) (holders before place)) (eq-eqb place place refl)) in
         let gone : length (all_but net (holders before place)) + times net (holders before place) ≡ length (holders before place) = all_but-length net (holders before place) in
         let some : 0 < times net (holders before place) = contained_times (holders before place) net held in
         let was : holder_count old place ≡ length (holders before place) = after.holders place in
@@ -129,7 +129,7 @@ after_release before nodes net place old new after held once counts = record {
     by node (inl e) = subst (λ (n : ℕ). holder_count new n ≡ length (holders (before ++ Release net place ∷ []) n)) (sym e) at
     by node (inr ne) =
         let same : length (holders (before ++ Release net place ∷ []) node) ≡ length (holders before node) =
-            ap length (holders_push-release before net place node ∙ ap (λ (b : Bool). cond b (all_but net (holders before node)) (holders before node)) (ne_eqb place node (λ e. ne (sym e)))) in
+        ap length (holders_push-release before net place node ∙ ap (λ (b : Bool). cond b (all_but net (holders before node)) (holders before node)) (ne_eqb place node (λ e. ne (sym e)))) in
         counts.others node ne ∙ (after.holders node ∙ sym same)
 
 -- and an end of a round
@@ -160,7 +160,7 @@ after_end before nodes old new after ends = record {
         omega (arith, counted node)
 
 -- the step at a place, whatever stands past the end
-step_at : (steps : List Step) (i : ℕ) (item step : Step) → i < length steps → item ≡ get_or steps i item → item ≡ step → get_or steps i End ≡ step
+pub step_at : (steps : List Step) (i : ℕ) (item step : Step) → i < length steps → item ≡ get_or steps i item → item ≡ step → get_or steps i End ≡ step
 step_at steps i item step h is e = get_or_default steps i End item h ∙ (sym is ∙ e)
 
 -- the occupancy of the steps up to the next

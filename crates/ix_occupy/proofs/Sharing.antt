@@ -34,7 +34,7 @@ unshared_each loads none node = by (cases_lt (kept_at loads node).holders 2)
     by (inl few) = few
     by (inr many) =
         let counted : sharing_of (kept_at loads node).holders ≤ count_by (λ l. nat_le 2 l.holders) loads =
-            get_or-le-sum_by (λ (l : NodeLoad). sharing_of l.holders) loads node blank (shared_inside loads node many) in
+        get_or-le-sum_by (λ (l : NodeLoad). sharing_of l.holders) loads node blank (shared_inside loads node many) in
         let one : sharing_of (kept_at loads node).holders ≡ 1 = sharing_of-many (kept_at loads node).holders many in
         absurd (omega arith)
 
@@ -42,16 +42,17 @@ unshared_each loads none node = by (cases_lt (kept_at loads node).holders 2)
 pub unshared_count : (loads : List NodeLoad) → ((node : ℕ) → (kept_at loads node).holders < 2) → count_by (λ l. nat_le 2 l.holders) loads ≡ 0
 unshared_count loads few =
     let each : All (λ (l : NodeLoad). sharing_of l.holders ≤ 0) loads = λ k d inside.
-        subst (λ (l : NodeLoad). sharing_of l.holders ≤ 0) (get_or_default loads k blank d inside)
-        (let none : sharing_of (kept_at loads k).holders ≡ 0 = sharing_of-few (kept_at loads k).holders (few k) in omega arith) in
+    subst (λ (l : NodeLoad). sharing_of l.holders ≤ 0) (get_or_default loads k blank d inside)
+    (let none : sharing_of (kept_at loads k).holders ≡ 0 = sharing_of-few (kept_at loads k).holders (few k) in omega arith) in
     let all : count_by (λ l. nat_le 2 l.holders) loads ≤ length loads * 0 = sum_by-le (λ (l : NodeLoad). sharing_of l.holders) 0 loads each in
     omega arith
 
 -- the number of shared nodes is 0 exactly where each has fewer than two holders
 pub no_shared : (view : List Load) (loads : List NodeLoad) → map load_of loads ≡ view → (shared_count view ≡ 0) ↔ ((node : ℕ) → holder_count view node < 2)
-no_shared view loads e =
-    ( (λ none node. let few : (kept_at loads node).holders < 2 = unshared_each loads (sym (shared_seen view loads e) ∙ none) node in omega (arith, holders_seen view loads node e))
-    , (λ few. shared_seen view loads e ∙ unshared_count loads (λ node. omega (arith, few node, holders_seen view loads node e))) )
+no_shared view loads e = (
+  (λ none node. let few : (kept_at loads node).holders < 2 = unshared_each loads (sym (shared_seen view loads e) ∙ none) node in omega (arith, holders_seen view loads node e)),
+  (λ few. shared_seen view loads e ∙ unshared_count loads (λ node. omega (arith, few node, holders_seen view loads node e))),
+)
 
 -- a touched node is one of the nodes
 pub touched_inside : (loads : List NodeLoad) (touched : List ℕ) (capacity sharing : ℕ) → IsKept loads touched capacity sharing → All (λ n. n < length loads) touched
@@ -59,9 +60,9 @@ touched_inside loads touched capacity sharing kept k d inside =
     subst (λ (n : ℕ). n < length loads) (get_or_default touched k 0 d inside)
     (inside_if loads (get_or touched k 0)
     (λ e.
-        let none : touching_of (kept_at loads (get_or touched k 0)) ≡ 0 = ap touching_of e in
-        let some : 0 < times (get_or touched k 0) touched = some_times touched k inside in
-        absurd (omega (arith, kept.once (get_or touched k 0)))))
+    let none : touching_of (kept_at loads (get_or touched k 0)) ≡ 0 = ap touching_of e in
+    let some : 0 < times (get_or touched k 0) touched = some_times touched k inside in
+    absurd (omega (arith, kept.once (get_or touched k 0)))))
 
 -- each touched node stands once in the list
 pub touched_once : (loads : List NodeLoad) (touched : List ℕ) (capacity sharing : ℕ) → IsKept loads touched capacity sharing → (node : ℕ) → times node touched ≤ 1
@@ -101,15 +102,17 @@ first_of_all view loads touched capacity sharing (Some node) e kept least = reco
 pub none_of_all : (view : List Load) (loads : List NodeLoad) (touched : List ℕ) (capacity sharing : ℕ) (found : Option ℕ)
     → map load_of loads ≡ view → IsKept loads touched capacity sharing → IsLeastShared loads touched found
     → IsNone found ↔ (shared_count view ≡ 0)
-none_of_all view loads touched capacity sharing None e kept least =
-    ( (λ _. shared_seen view loads e ∙ unshared_count loads (λ node. by node (cases_lt (kept_at loads node).holders 2)))
-    , (λ _. refl) )
+none_of_all view loads touched capacity sharing None e kept least = (
+  (λ _. shared_seen view loads e ∙ unshared_count loads (λ node. by node (cases_lt (kept_at loads node).holders 2))),
+  (λ _. refl),
+)
   where
     by : (node : ℕ) → ((kept_at loads node).holders < 2) ⊎ (2 ≤ (kept_at loads node).holders) → (kept_at loads node).holders < 2
     by node (inl few) = few
     by node (inr many) = least.none node (held_touched loads touched capacity sharing kept node (omega arith))
-none_of_all view loads touched capacity sharing (Some node) e kept least =
-    ( (λ h. absurd (false≢true (sym h)))
-    , (λ none.
-        let few : (kept_at loads node).holders < 2 = unshared_each loads (sym (shared_seen view loads e) ∙ none) node in
-        absurd (omega (arith, least.shared))) )
+none_of_all view loads touched capacity sharing (Some node) e kept least = (
+  (λ h. absurd (false≢true (sym h))),
+  (λ none.
+      let few : (kept_at loads node).holders < 2 = unshared_each loads (sym (shared_seen view loads e) ∙ none) node in
+      absurd (omega (arith, least.shared))),
+)

@@ -51,7 +51,7 @@ ends_next before now nodes i node new h walked once inside node_is new_is =
     let e : get_or nodes i 0 ≡ node = get_or_default nodes i 0 node h ∙ sym node_is in
     let inside' : get_or nodes i 0 < length now = omega (arith, e) in
     let same : set now (get_or nodes i 0) (at_end (kept_at now (get_or nodes i 0))) ≡ set now node new =
-        ap (λ (n : ℕ). set now n (at_end (kept_at now n))) e ∙ ap (λ (x : NodeLoad). set now node x) (sym new_is) in
+    ap (λ (n : ℕ). set now n (at_end (kept_at now n))) e ∙ ap (λ (x : NodeLoad). set now node x) (sym new_is) in
     subst (λ (s : List NodeLoad). EndsAt before s (take (i + 1) nodes)) same (ends_more before now nodes i h walked (once (get_or nodes i 0)) inside')
 
 -- the least shared node, one node further: it is shared, and the lesser of it and the one before

@@ -4,3 +4,4 @@ pub mod Loads
 pub mod Costs
 -- Only for private contracts and proofs.
 pub mod Kept
+pub mod Held

@@ -10,11 +10,9 @@ ghost use Rattle.ix_occupy.specs.declared.steps.Step.{Step};
 pub fn costs_are_in_range()
     ensures positive { (round hist others : ℕ) → 1 ≤ node_cost round hist others }
     ensures bounded { (round hist others : ℕ) → node_cost round hist others ≤ 2 ^ 32 }
-{
-}
+{}
 
 /// After a lawful list of steps no net is twice among the holders of a node, so their number is that of the nets.
 pub fn holders_differ()
     ensures { (steps : List Step) (node net : ℕ) → IsLawful steps → times net (holders steps node) ≤ 1 }
-{
-}
+{}

@@ -4,11 +4,13 @@
 //! shared grows dearer until all but one leave it.
 #![tactic(auto)]
 
+mod lawful;
 mod laws;
 mod loads;
 mod occupancy;
 mod steps;
 
+pub use lawful::is_lawful;
 pub use laws::{costs_are_in_range, holders_differ};
 pub use occupancy::Occupancy;
 pub use steps::{Step, replay};

@@ -19,16 +19,16 @@ release-requires-clause-held c =
 pub loop-step-preserved : goal.loop-step-preserved
 loop-step-preserved c =
     elim c.match-step.branch [
-      in-Claim w ↦
-        subst (λ (loads : List Load). IsAfter (take (c.loop-step.step-index + 1) c.args.steps.now) c.args.nodes loads) (sym w.occupancy-is)
-        (claim_next c.args.steps.now c.loop-step.step-index c.args.nodes w.in-Claim.field-0 w.in-Claim.node c.step-item.result c.loop-step.occupancy w.claim.new.self
-        c.loop-step-test.true c.step-item.is w.in-Claim.is c.loop-step.invariant w.claim.ensures)
-    | in-Release w ↦
-        subst (λ (loads : List Load). IsAfter (take (c.loop-step.step-index + 1) c.args.steps.now) c.args.nodes loads) (sym w.occupancy-is)
-        (release_next c.args.steps.now c.loop-step.step-index c.args.nodes w.in-Release.field-0 w.in-Release.node c.step-item.result c.loop-step.occupancy w.release.new.self
-        c.loop-step-test.true c.step-item.is w.in-Release.is c.requires.lawful c.loop-step.invariant w.release.ensures)
-    | in-End w ↦
-        subst (λ (loads : List Load). IsAfter (take (c.loop-step.step-index + 1) c.args.steps.now) c.args.nodes loads) (sym w.occupancy-is)
-        (end_next c.args.steps.now c.loop-step.step-index c.args.nodes c.step-item.result c.loop-step.occupancy w.end_round.new.self
-        c.loop-step-test.true c.step-item.is w.in-End.is c.loop-step.invariant w.end_round.ensures)
+      | in-Claim w ↦
+          subst (λ (loads : List Load). IsAfter (take (c.loop-step.step-index + 1) c.args.steps.now) c.args.nodes loads) (sym w.occupancy-is)
+          (claim_next c.args.steps.now c.loop-step.step-index c.args.nodes w.in-Claim.field-0 w.in-Claim.node c.step-item.result c.loop-step.occupancy w.claim.new.self
+          c.loop-step-test.true c.step-item.is w.in-Claim.is c.loop-step.invariant w.claim.ensures)
+      | in-Release w ↦
+          subst (λ (loads : List Load). IsAfter (take (c.loop-step.step-index + 1) c.args.steps.now) c.args.nodes loads) (sym w.occupancy-is)
+          (release_next c.args.steps.now c.loop-step.step-index c.args.nodes w.in-Release.field-0 w.in-Release.node c.step-item.result c.loop-step.occupancy w.release.new.self
+          c.loop-step-test.true c.step-item.is w.in-Release.is c.requires.lawful c.loop-step.invariant w.release.ensures)
+      | in-End w ↦
+          subst (λ (loads : List Load). IsAfter (take (c.loop-step.step-index + 1) c.args.steps.now) c.args.nodes loads) (sym w.occupancy-is)
+          (end_next c.args.steps.now c.loop-step.step-index c.args.nodes c.step-item.result c.loop-step.occupancy w.end_round.new.self
+          c.loop-step-test.true c.step-item.is w.in-End.is c.loop-step.invariant w.end_round.ensures)
     ]

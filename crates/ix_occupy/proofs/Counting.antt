@@ -1,8 +1,10 @@
 -- How often a number stands in a list, and how many elements pass a test.
-use Rattle.std.proofs.Common.{◌≡◌, ◌<◌, ◌≤◌, refl, ap, sym, ◌∙◌, ℕ, zero, suc, ◌+◌, Bool, true, false, cond, nat_eq, nat_le, List, [], ◌∷◌, ◌++◌, take, length, get_or, set, map, inl, inr, arith}
-use Rattle.std.specs.List.{count_by, fold, Contains}
-use Rattle.std.proofs.lemmas.Bool.{eq-eqb, ne_eqb, eqb-true, leb-true, leb-false, cases_eq}
-use Rattle.std.proofs.lemmas.List.Sums.{sum_by-cons, sum_by_push, sum_by_more, sum_by_more_le, get_or-le-sum_by, sum_by-set}
+use Rattle.std.proofs.Common.{◌≡◌, ◌<◌, ◌≤◌, refl, ap, ℕ, ◌+◌, Bool, cond, nat_eq, List, [], ◌∷◌}
+use Rattle.std.proofs.Common.{◌++◌, take, length, get_or, set, map, arith}
+use Rattle.std.specs.List.{count_by}
+use Rattle.std.proofs.lemmas.Bool.{eq-eqb, ne_eqb}
+use Rattle.std.proofs.lemmas.List.Sums.{sum_by_push, sum_by_more, sum_by_more_le, get_or-le-sum_by}
+use Rattle.std.proofs.lemmas.List.Sums.{sum_by-set}
 use Rattle.std.proofs.lemmas.List.Folds.{fold-map}
 use Rattle.ix_occupy.specs.Steps.{times}
 
@@ -20,13 +22,16 @@ none_other m n h = let as_count : Bool → ℕ = λ b. cond b 1 0 in ap as_count
 pub times_push : (n m : ℕ) (ns : List ℕ) → times n (ns ++ m ∷ []) ≡ times n ns + hit m n
 times_push n m ns = sum_by_push (λ other. hit other n) ns m
 
-pub times_more : (n : ℕ) (ns : List ℕ) (i : ℕ) → i < length ns → times n (take (i + 1) ns) ≡ times n (take i ns) + hit (get_or ns i 0) n
+pub times_more : (n : ℕ) (ns : List ℕ) (i : ℕ) → i < length ns
+    → times n (take (i + 1) ns) ≡ times n (take i ns) + hit (get_or ns i 0) n
 times_more n ns i h = sum_by_more (λ other. hit other n) ns i 0 h
 
 -- where a number stands at most once, it stands not before its place
-pub none_before : (ns : List ℕ) (i : ℕ) → i < length ns → times (get_or ns i 0) ns ≤ 1 → times (get_or ns i 0) (take i ns) ≡ 0
+pub none_before : (ns : List ℕ) (i : ℕ) → i < length ns → times (get_or ns i 0) ns ≤ 1
+    → times (get_or ns i 0) (take i ns) ≡ 0
 none_before ns i h few =
-    let more : times (get_or ns i 0) (take i ns) + hit (get_or ns i 0) (get_or ns i 0) ≤ times (get_or ns i 0) ns =
+    let more : times (get_or ns i 0) (take i ns) + hit (get_or ns i 0) (get_or ns i 0) ≤ times
+    (get_or ns i 0) ns =
     sum_by_more_le (λ other. hit other (get_or ns i 0)) ns i 0 h in
     let own : hit (get_or ns i 0) (get_or ns i 0) ≡ 1 = one_self (get_or ns i 0) in
     omega arith
@@ -45,5 +50,6 @@ pub count_set : {X : Type 0} (p : X → Bool) (xs : List X) (i : ℕ) (y d : X) 
 count_set p xs i y d h = sum_by-set (λ x. cond (p x) 1 0) xs i y d h
 
 -- a count over a list that was mapped
-pub count_map : {X Y : Type 0} (p : Y → Bool) (f : X → Y) (xs : List X) → count_by p (map f xs) ≡ count_by (λ x. p (f x)) xs
+pub count_map : {X Y : Type 0} (p : Y → Bool) (f : X → Y) (xs : List X)
+    → count_by p (map f xs) ≡ count_by (λ x. p (f x)) xs
 count_map p f xs = fold-map (λ (a : ℕ) y. a + cond (p y) 1 0) f 0 xs

@@ -1,5 +1,7 @@
--- What contracts see of an occupancy: for each node how many nets hold it, and at how many ends of rounds it was shared.
-use Rattle.std.specs.Prelude.{◌≡◌, ◌≢◌, ℕ, ◌+◌, ◌-◌, ◌<◌, ◌≤◌, Bool, nat_le, min, List, length, slice_index_or, if◌then◌else◌}
+-- What contracts see of an occupancy: for each node how many nets hold it, and at how many ends of
+-- rounds it was shared.
+use Rattle.std.specs.Prelude.{◌≡◌, ◌≢◌, ℕ, ◌+◌, ◌-◌, ◌<◌, ◌≤◌, Bool, nat_le, min, List, length}
+use Rattle.std.specs.Prelude.{slice_index_or, if◌then◌else◌}
 use Rattle.std.specs.List.{count_by}
 use Rattle.ix_occupy.specs.declared.steps.Step.{Step}
 use Rattle.ix_occupy.specs.Steps.{NodeNumber, most_hist, holders, hist}
@@ -30,15 +32,18 @@ shared_count loads = count_by (λ load. nat_le 2 load.holders) loads
 pub record Recounts (before now : List Load) (node : NodeNumber) (count : ℕ) : Type 0 where
   pub nodes : length now ≡ length before
   pub changed : holder_count now node ≡ count
-  pub others : (other : NodeNumber) → other ≢ node → holder_count now other ≡ holder_count before other
+  pub others : (other : NodeNumber) → other ≢ node
+      → holder_count now other ≡ holder_count before other
   pub hist : (other : NodeNumber) → hist_at now other ≡ hist_at before other
 
 -- an end of a round: it counts for each node with two holders or more, and all else is as before
 pub record EndsRound (before now : List Load) : Type 0 where
   pub nodes : length now ≡ length before
   pub holders : (node : NodeNumber) → holder_count now node ≡ holder_count before node
-  pub shared : (node : NodeNumber) → 2 ≤ holder_count before node → hist_at now node ≡ min (hist_at before node + 1) most_hist
-  pub others : (node : NodeNumber) → holder_count before node < 2 → hist_at now node ≡ hist_at before node
+  pub shared : (node : NodeNumber) → 2 ≤ holder_count before node
+      → hist_at now node ≡ min (hist_at before node + 1) most_hist
+  pub others : (node : NodeNumber) → holder_count before node < 2
+      → hist_at now node ≡ hist_at before node
 
 -- the least node with two holders or more
 pub record IsFirstShared (loads : List Load) (node : NodeNumber) : Type 0 where

@@ -1,5 +1,7 @@
--- What a list of steps means: which nets hold a node after it, and at how many ends of rounds the node was shared.
-use Rattle.std.specs.Prelude.{◌≡◌, ℕ, ◌+◌, ◌<◌, Bool, true, false, ◌&&◌, not, nat_eq, nat_le, min, List, [], ◌∷◌, ◌++◌, length, map, if◌then◌else◌}
+-- What a list of steps means: which nets hold a node after it, and at how many ends of rounds the
+-- node was shared.
+use Rattle.std.specs.Prelude.{◌≡◌, ℕ, ◌<◌, Bool, false, ◌&&◌, not, nat_eq, nat_le, min, List, []}
+use Rattle.std.specs.Prelude.{◌∷◌, ◌++◌, length, map, if◌then◌else◌}
 use Rattle.std.specs.List.{list_any, count_by, Contains}
 use Rattle.ix_occupy.specs.declared.steps.Step.{Step}
 use Rattle.ix_occupy.specs.declared.steps.Step.TheVariants.{Claim, Release, End}
@@ -24,7 +26,8 @@ is_release net node End = false
 unfoldable pub holders : List Step → NodeNumber → List NetNumber
 holders [] node = []
 holders (Claim net place ∷ later) node =
-    if nat_eq place node && not (list_any (is_release net node) later) then net ∷ holders later node else holders later node
+    if nat_eq place node && not (list_any (is_release net node) later) then net ∷ holders later node
+    else holders later node
 holders (Release _ _ ∷ later) node = holders later node
 holders (End ∷ later) node = holders later node
 
@@ -56,7 +59,8 @@ MayFollow before End = Unit {0}
 -- each step may follow those before it
 abbrev pub IsLawful : List Step → Type 0
 IsLawful steps =
-    (before : List Step) (step : Step) (later : List Step) → steps ≡ before ++ step ∷ later → MayFollow before step
+    (before : List Step) (step : Step) (later : List Step) → steps ≡ before ++ step ∷ later
+    → MayFollow before step
 
 -- the step's node is one of so many
 abbrev pub IsOfNodes : ℕ → Step → Type 0

@@ -1,7 +1,8 @@
-//! How many nets hold each node of a graph while they negotiate for it, and at how many ends of rounds it was shared.
+//! How many nets hold each node of a graph while they negotiate for it, and at how many ends of
+//! rounds it was shared.
 //!
-//! The negotiation is that of PathFinder (L. McMurchie, C. Ebeling, 1995): nets share nodes at first, and a node that stays
-//! shared grows dearer until all but one leave it.
+//! The negotiation is that of PathFinder (L. McMurchie, C. Ebeling, 1995): nets share nodes at
+//! first, and a node that stays shared grows dearer until all but one leave it.
 #![tactic(auto)]
 
 mod lawful;

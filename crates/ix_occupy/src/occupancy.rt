@@ -1,9 +1,11 @@
 //! The occupancy of the nodes of a graph.
 
-ghost use Rattle.std.specs.Prelude.{◌≡◌, ℕ, ◌+◌, ◌-◌, ◌^◌, ◌<◌, ◌≤◌, ◌↔◌, length, vec_len, ◌++◌, ◌∷◌, [], IsTrue, IfOk, IfSome, IsNone};
+ghost use Rattle.std.specs.Prelude.{◌≡◌, ℕ, ◌+◌, ◌-◌, ◌^◌, ◌<◌, ◌≤◌, ◌↔◌, length, vec_len, ◌++◌};
+ghost use Rattle.std.specs.Prelude.{◌∷◌, [], IsTrue, IfOk, IfSome, IsNone};
 ghost use Rattle.std.specs.Vec.{vec_capacity};
 ghost use Rattle.ix_occupy.specs.Steps.{most_hist};
-ghost use Rattle.ix_occupy.specs.Loads.{holder_count, hist_at, shared_count, others_at, Recounts, EndsRound, IsFirstShared};
+ghost use Rattle.ix_occupy.specs.Loads.{holder_count, hist_at, shared_count, others_at, Recounts};
+ghost use Rattle.ix_occupy.specs.Loads.{EndsRound, IsFirstShared};
 
 use crate::loads::{NodeLoad, end_at, least_shared};
 use ix_num::{Memory, NodeId};
@@ -12,12 +14,14 @@ use std::marker::Model;
 
 /// How many nets hold each node, and at how many ends of rounds it was shared.
 ///
-/// Contracts see the list of the nodes' loads: a load is these two numbers. All nodes given to the calls are below the number
-/// of nodes that `new` was given. After `new` nothing takes memory. It takes 12 bytes a node.
+/// Contracts see the list of the nodes' loads: a load is these two numbers. All nodes given to the
+/// calls are below the number of nodes that `new` was given. After `new` nothing takes memory. It
+/// takes 12 bytes a node.
 #[derive(Drop)]
 pub struct Occupancy {
     loads: Vec<NodeLoad>,
-    // The nodes that were ever claimed, in the order of their first claims. There is room for all nodes.
+    // The nodes that were ever claimed, in the order of their first claims. There is room for all
+    // nodes.
     touched: Vec<NodeId>,
     // How many nodes are shared.
     shared: u32,
@@ -33,7 +37,8 @@ impl Model for Occupancy {
 
     ghost view = { λ o. map load_of o.loads.items };
 
-    ghost invariant = { λ o. IsKept o.loads.items o.touched.items (vec_capacity o.touched) o.shared };
+    ghost invariant = { λ o. IsKept o.loads.items o.touched.items
+        (vec_capacity o.touched) o.shared };
 }
 
 impl Occupancy {
@@ -87,8 +92,8 @@ impl Occupancy {
         self.shared -= u32::from(load.holders == 2);
     }
 
-    /// The end of a round: it counts, up to 65,535, for each node with two holders or more. It looks only at nodes that were
-    /// ever claimed.
+    /// The end of a round: it counts, up to 65,535, for each node with two holders or more. It
+    /// looks only at nodes that were ever claimed.
     pub fn end_round(&mut self)
         ensures { EndsRound self.old self.new }
     {

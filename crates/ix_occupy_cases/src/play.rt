@@ -34,11 +34,7 @@ fn take(occupancy: &mut Occupancy, nodes: u32, step: Step) -> bool
 }
 
 /// The occupancy after these steps, None where one of them can't be taken.
-pub(crate) fn played(
-    alloc: Global,
-    nodes: u32,
-    steps: &[Step],
-) -> Result<Option<Occupancy>, Memory>
+pub(crate) fn played(alloc: Global, nodes: u32, steps: &[Step]) -> Result<Option<Occupancy>, Memory>
     ensures { IfOk result (λ occupancy. IfSome occupancy (λ o. length o ≡ nodes)) }
 {
     let mut occupancy = Occupancy::new(alloc, nodes)?;

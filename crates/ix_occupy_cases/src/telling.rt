@@ -9,11 +9,7 @@ use std::fmt::Write;
 
 /// For each node the number of its holders, of those but one of them, and its history; then the
 /// number of shared nodes, and the first of them.
-pub(crate) fn told(
-    alloc: Global,
-    occupancy: &Occupancy,
-    nodes: u32,
-) -> Result<String, AllocError>
+pub(crate) fn told(alloc: Global, occupancy: &Occupancy, nodes: u32) -> Result<String, AllocError>
     requires { length occupancy.now ≡ nodes }
 {
     let mut line = String::new(alloc);

@@ -1,7 +1,6 @@
 use Rattle.std.proofs.Common.{ℕ, ◌+◌, ◌*◌, ◌^◌, ◌<◌, ◌≤◌, min, arith}
 use Rattle.std.proofs.Math.Nat.{mul-le-mul, mul-pos}
-use Rattle.ix_occupy.specs.Steps.{most_hist}
-use Rattle.ix_occupy.specs.Costs.{node_cost, most_rounds, most_pressure}
+use Rattle.ix_occupy.specs.Costs.{node_cost, most_rounds}
 use Rattle.ix_occupy.proofs.laws.costs_are_in_range.Goals as goal
 
 -- both factors are 1 at least, and 2^16 at most
@@ -13,8 +12,10 @@ factor_below n = omega arith
 
 pub returns-clause-positive : goal.returns-clause-positive
 unfolding node_cost
-returns-clause-positive c = λ round hist others. mul-pos (factor hist) (factor (2 ^ (min round most_rounds) * others))
+returns-clause-positive c = λ round hist others. mul-pos (factor hist)
+    (factor (2 ^ (min round most_rounds) * others))
 
 pub returns-clause-bounded : goal.returns-clause-bounded
 unfolding node_cost
-returns-clause-bounded c = λ round hist others. mul-le-mul (factor_below hist) (factor_below (2 ^ (min round most_rounds) * others))
+returns-clause-bounded c = λ round hist others. mul-le-mul (factor_below hist)
+    (factor_below (2 ^ (min round most_rounds) * others))

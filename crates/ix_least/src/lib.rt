@@ -1,0 +1,11 @@
+//! Least paths: the path of least cost from given sources to a target, ties broken by edge numbers.
+#![tactic(auto)]
+
+mod asked;
+mod front;
+mod labels;
+mod path;
+mod queue;
+
+pub use asked::{Bounds, Costs, Edges};
+pub use path::Path;

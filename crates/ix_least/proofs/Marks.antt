@@ -42,38 +42,40 @@ known_other labels p k l m other known = get_set_other labels p k (Some l) other
 
 pub known_cases : (labels : List (Option Label)) (p k : ℕ) (l m : Label) → p < length labels → IsKnown (slice_set labels p (Some l)) k m → ((k ≡ p) × (m ≡ l)) ⊎ ((k ≢ p) × IsKnown labels k m)
 known_cases labels p k l m below known =
-  elim (same_or_not k p) [
-    inl e ↦ inl (e, known_once (slice_set labels p (Some l)) p m l (subst (λ (j : ℕ). IsKnown (slice_set labels p (Some l)) j m) e known) (known_set labels p l below))
-  | inr n ↦ inr (n, sym (get_set_other labels p k (Some l) n) ∙ known)
-  ]
+    elim (same_or_not k p) [
+      | inl e ↦ inl (e, known_once (slice_set labels p (Some l)) p m l (subst (λ (j : ℕ). IsKnown (slice_set labels p (Some l)) j m) e known) (known_set labels p l below))
+      | inr n ↦ inr (n, sym (get_set_other labels p k (Some l) n) ∙ known)
+    ]
 
 -- a point that is settled weighs nothing from then on
 pub open_weight-settle : (w : ℕ → ℕ) (labels : List (Option Label)) (i p : ℕ) (l m : Label) → IsKnown labels p l → l.settled ≡ false → m.settled ≡ true → open_weight w i (slice_set labels p (Some m)) + w (i + p) ≡ open_weight w i labels
 unfolding open_weight
-open_weight-settle w [] i p l m known open settled = cc
-open_weight-settle w (None ∷ labels) i zero l m known open settled = cc
-open_weight-settle w (Some k ∷ labels) i zero l m known open settled =
-  let same : k ≡ l = cc in
-  let here : k.settled ≡ false = ap (λ (x : Label). x.settled) same ∙ open in
-  let w_is : w (i + 0) ≡ w i = ap w (omega arith) in
-  rw (settled, here, w_is) (omega arith)
-open_weight-settle w (None ∷ labels) i (suc p) l m known open settled =
-  let rest : open_weight w (i + 1) (slice_set labels p (Some m)) + w (i + 1 + p) ≡ open_weight w (i + 1) labels = open_weight-settle w labels (i + 1) p l m known open settled in
-  let w_is : w (i + suc p) ≡ w (i + 1 + p) = ap w (omega arith) in
-  omega (arith, rest, w_is)
-open_weight-settle w (Some k ∷ labels) i (suc p) l m known open settled =
-  let rest : open_weight w (i + 1) (slice_set labels p (Some m)) + w (i + 1 + p) ≡ open_weight w (i + 1) labels = open_weight-settle w labels (i + 1) p l m known open settled in
-  let w_is : w (i + suc p) ≡ w (i + 1 + p) = ap w (omega arith) in
-  omega (arith, rest, w_is)
+open_weight-settle w [] i p l m known unsettled settled = cc
+open_weight-settle w (None ∷ labels) i zero l m known unsettled settled = cc
+open_weight-settle w (Some k ∷ labels) i zero l m known unsettled settled =
+    let same : k ≡ l = cc in
+    let here : k.settled ≡ false = ap (λ (x : Label). x.settled) same ∙ unsettled in
+    let w_is : w (i + 0) ≡ w i = ap w (omega arith) in
+    rw (settled, here, w_is) (omega arith)
+open_weight-settle w (None ∷ labels) i (suc p) l m known unsettled settled =
+    let rest : open_weight w (i + 1) (slice_set labels p (Some m)) + w (i + 1 + p) ≡ open_weight w (i + 1) labels = open_weight-settle w labels (i + 1) p l m known unsettled settled in
+    let w_is : w (i + suc p) ≡ w (i + 1 + p) = ap w (omega arith) in
+    omega (arith, rest, w_is)
+open_weight-settle w (Some k ∷ labels) i (suc p) l m known unsettled settled =
+    let rest : open_weight w (i + 1) (slice_set labels p (Some m)) + w (i + 1 + p) ≡ open_weight w (i + 1) labels = open_weight-settle w labels (i + 1) p l m known unsettled settled in
+    let w_is : w (i + suc p) ≡ w (i + 1 + p) = ap w (omega arith) in
+    omega (arith, rest, w_is)
 
 -- a label that isn't settled, in the place of another or of none, changes no weight
 pub open_weight-same : (w : ℕ → ℕ) (labels : List (Option Label)) (i p : ℕ) (m : Label) → ((l : Label) → IsKnown labels p l → l.settled ≡ false) → m.settled ≡ false → open_weight w i (slice_set labels p (Some m)) ≡ open_weight w i labels
 unfolding open_weight
-open_weight-same w [] i p m open unsettled = refl
-open_weight-same w (None ∷ labels) i zero m open unsettled = rw unsettled refl
-open_weight-same w (Some k ∷ labels) i zero m open unsettled = let here : k.settled ≡ false = open k refl in rw (unsettled, here) refl
-open_weight-same w (None ∷ labels) i (suc p) m open unsettled = ap (λ n. w i + n) (open_weight-same w labels (i + 1) p m open unsettled)
-open_weight-same w (Some k ∷ labels) i (suc p) m open unsettled = ap (λ n. _ + n) (open_weight-same w labels (i + 1) p m open unsettled)
+open_weight-same w [] i p m before unsettled = refl
+open_weight-same w (None ∷ labels) i zero m before unsettled = rw unsettled refl
+open_weight-same w (Some k ∷ labels) i zero m before unsettled = let here : k.settled ≡ false = before k refl in rw (unsettled, here) refl
+open_weight-same w (None ∷ labels) i (suc p) m before unsettled = ap (λ n. w i + n) (open_weight-same w labels (i + 1) p m before unsettled)
+open_weight-same w (Some k ∷ labels) i (suc p) m before unsettled =
+    let rest : open_weight w (i + 1) (slice_set labels p (Some m)) ≡ open_weight w (i + 1) labels = open_weight-same w labels (i + 1) p m before unsettled in
+    omega (arith, rest)
 
 -- no more points are open than there are
 pub open_count_le : (labels : List (Option Label)) (i : ℕ) → open_weight (λ _. 1) i labels ≤ length labels
@@ -102,11 +104,11 @@ unfolding count_above
 count_above-less less [] p l known lt = cc
 count_above-less less (None ∷ labels) zero l known lt = cc
 count_above-less less (Some k ∷ labels) zero l known lt =
-  let same : k ≡ l = cc in
-  let dist : k.dist ≡ l.dist = ap (λ (x : Label). x.dist) same in
-  let rest : count_above l.dist labels ≤ count_above less labels = count_above-le less l.dist labels (omega arith) in
-  grind (arith, nat_tests)
+    let same : k ≡ l = cc in
+    let dist : k.dist ≡ l.dist = ap (λ (x : Label). x.dist) same in
+    let rest : count_above l.dist labels ≤ count_above less labels = count_above-le less l.dist labels (omega arith) in
+    grind (arith, nat_tests)
 count_above-less less (None ∷ labels) (suc p) l known lt = count_above-less less labels p l known lt
 count_above-less less (Some k ∷ labels) (suc p) l known lt =
-  let rest : count_above l.dist labels + 1 ≤ count_above less labels = count_above-less less labels p l known lt in
-  grind (arith, nat_tests)
+    let rest : count_above l.dist labels + 1 ≤ count_above less labels = count_above-less less labels p l known lt in
+    grind (arith, nat_tests)

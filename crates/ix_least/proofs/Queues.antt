@@ -36,11 +36,11 @@ by_recursion P (y ∷ ys) x a (zero, below, is) = subst P is a.0
 by_recursion P (y ∷ ys) x a (suc k, below, is) = by_recursion P ys x a.1 (k, omega arith, is)
 
 -- a list's first element, or one of the others
-cons_cases : {X : Type 0} (x y : X) (xs : List X) → Contains (x ∷ xs) y → (y ≡ x) ⊎ Contains xs y
+pub cons_cases : {X : Type 0} (x y : X) (xs : List X) → Contains (x ∷ xs) y → (y ≡ x) ⊎ Contains xs y
 cons_cases x y xs (zero, below, is) = inl (sym is)
 cons_cases x y xs (suc k, below, is) = inr (k, omega arith, is)
 
-in_cons : {X : Type 0} (x y : X) (xs : List X) → Contains xs y → Contains (x ∷ xs) y
+pub in_cons : {X : Type 0} (x y : X) (xs : List X) → Contains xs y → Contains (x ∷ xs) y
 in_cons x y xs (k, below, is) = (suc k, omega arith, is)
 
 pub adds_from_push : (entry : Entry) (old new : List Entry) → IsPermutation (entry ∷ old) new → Adds entry old new

@@ -61,7 +61,7 @@ IsOffered key point label old new before now =
 abbrev pub IsGoneOver : Question → List (Option Label) → ℕ → ℕ → ℕ → Type 0
 IsGoneOver q labels dist edge to =
     (cost : ℕ) → q.costs to ≡ Some cost →
-        (1 ≤ cost) × ((label : Label) × IsKnown labels to label × IsNoWorse label (dist + cost) edge)
+    (1 ≤ cost) × ((label : Label) × IsKnown labels to label × IsNoWorse label (dist + cost) edge)
 
 -- the edges that were gone over: all those out of settled points
 abbrev pub all_edges : Question → ℕ → ℕ × ℕ → Type 0
@@ -139,3 +139,17 @@ pub record IsFound (q : Question) (target : ℕ) (labels : List (Option Label)) 
   pub known : IsKnown labels target label
   pub target_final : IsFinal q labels target label
   pub final : (point : ℕ) (other : Label) → IsKnown labels point other → other.settled ≡ true → IsFinal q labels point other
+
+-- what is asked, of its parts
+abbrev pub asked : (ℕ → List (ℕ × ℕ)) → (ℕ → Option ℕ) → List ℕ → Question
+asked edges costs sources = record { edges = edges; costs = costs; sources = sources }
+
+-- a search from these sources was started, whatever the edges, the costs and the target
+pub record IsStarted (sources : List ℕ) (key : ℕ → ℕ → ℕ) (labels : List (Option Label)) (queue : List Entry) : Type 0 where
+  pub sources_known : HasSources sources labels
+  pub settling : (edges : ℕ → List (ℕ × ℕ)) (costs : ℕ → Option ℕ) (target : ℕ) → IsSettling (asked edges costs sources) key target (all_edges (asked edges costs sources)) labels queue
+
+-- where a point was settled, and none of the edges out of it gone over, so many were now, whatever the sources and the target
+pub record LeavesUpTo (edges : ℕ → List (ℕ × ℕ)) (costs : ℕ → Option ℕ) (key : ℕ → ℕ → ℕ) (at dist count : ℕ) (old new : List (Option Label)) (before now : List Entry) : Type 0 where
+  pub leaving : (sources : List ℕ) (target : ℕ) → IsRising (asked edges costs sources) key → IsLeaving (asked edges costs sources) key target at dist 0 old before → IsLeaving (asked edges costs sources) key target at dist count new now
+  pub weights : (sources : List ℕ) (target : ℕ) → IsRising (asked edges costs sources) key → IsLeaving (asked edges costs sources) key target at dist 0 old before → (w : ℕ → ℕ) → open_weight w 0 new ≡ open_weight w 0 old

@@ -20,7 +20,7 @@ unfoldable pub IsWalk : Question → ℕ → List (ℕ × ℕ) → ℕ → ℕ �
 IsWalk q from [] to cost = (from ≡ to) × (cost ≡ 0)
 IsWalk q from (edge ∷ edges) to cost =
     (first : ℕ) × (others : ℕ) × IsStep q from edge.0 edge.1 first × IsWalk q edge.1 edges to others
-        × (cost ≡ first + others)
+    × (cost ≡ first + others)
 
 -- a walk from a source to the point costs so much
 pub record HasWalk (q : Question) (to cost : ℕ) : Type 0 where

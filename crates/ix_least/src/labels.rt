@@ -100,6 +100,20 @@ impl Labels {
         }
     }
 
+    /// The label of a point that is known to be reached.
+    pub(crate) fn known(&self, p: u32) -> Label
+        requires { (label : Label) × IsKnown self.now p label }
+        ensures { IsKnown self.now p result }
+    {
+        let slot = &self.slots[p as usize];
+        Label {
+            dist: slot.dist,
+            edge: slot.edge,
+            from: slot.from,
+            settled: slot.settled,
+        }
+    }
+
     /// Labels a point.
     pub(crate) fn put(&mut self, p: u32, label: Label)
         requires { p < length self.old }

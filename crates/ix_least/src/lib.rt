@@ -6,6 +6,8 @@ mod front;
 mod labels;
 mod path;
 mod queue;
+mod search;
 
 pub use asked::{Bounds, Costs, Edges};
 pub use path::Path;
+pub use search::Search;

@@ -7,8 +7,8 @@ use std::marker::Model;
 /// A path: a source, and the edges from it on. It has less than 2^32 edges.
 #[derive(Drop)]
 pub struct Path {
-    source: u32,
-    edges: Vec<(u32, u32)>,
+    pub(crate) source: u32,
+    pub(crate) edges: Vec<(u32, u32)>,
 }
 
 impl Model for Path {

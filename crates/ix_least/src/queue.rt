@@ -31,7 +31,12 @@ impl Ord for Entry {
     ghost matches_eq = { Prim.search (comparing, rules) depth 9 };
 
     fn cmp(&self, other: &Entry) -> Ordering {
-        other.key.cmp(&self.key).then(other.dist.cmp(&self.dist).then(self.point.cmp(&other.point)))
+        other.key.cmp(&self.key).then(
+            other
+                .dist
+                .cmp(&self.dist)
+                .then(self.point.cmp(&other.point)),
+        )
     }
 }
 

@@ -5,15 +5,15 @@ use Rattle.std.proofs.Math.Seq.{take-length}
 use Rattle.ix_least.specs.declared.labels.Label.{Label}
 use Rattle.ix_least.specs.declared.queue.Entry.{Entry}
 use Rattle.ix_least.specs.Labels.{IsKnown}
-use Rattle.ix_least.specs.Settling.{IsOffered, all_edges, asked, IsSettling, HasSources, IsStarted, open_count}
-use Rattle.ix_least.specs.Walks.{Question, HasWalk, IsWalk}
+use Rattle.ix_least.specs.Settling.{IsOffered, all_edges, IsSettling, HasSources, IsStarted, open_count}
+use Rattle.ix_least.specs.Walks.{Question, HasWalk, IsWalk, asked}
 use Rattle.ix_least.proofs.Marks.{known_within, open_count_le}
 use Rattle.ix_least.proofs.Offers.{IsFair}
 use Rattle.ix_least.proofs.Leaves.{IsTaken, taken, take_cases, bool_cases}
 
 -- so many of the sources were offered, and no point was settled
 pub record IsStarting (sources : List ℕ) (count : ℕ) (key : ℕ → ℕ → ℕ) (labels : List (Option Label)) (queue : List Entry) : Type 0 where
-  pub settling : (edges : ℕ → List (ℕ × ℕ)) (costs : ℕ → Option ℕ) (target : ℕ) → IsSettling (asked edges costs sources) key target (all_edges (asked edges costs sources)) labels queue
+  pub settling : (points : ℕ) (edges : ℕ → List (ℕ × ℕ)) (costs : ℕ → Option ℕ) (target : ℕ) → IsSettling (asked points edges costs sources) key target (all_edges (asked points edges costs sources)) labels queue
   pub sources_known : HasSources (take count sources) labels
   pub none_settled : (k : ℕ) (m : Label) → IsKnown labels k m → m.settled ≡ false
 
@@ -29,7 +29,7 @@ starting_none sources key before labels queue none empty =
     let unknown : (k : ℕ) (m : Label) → IsKnown labels k m → ⊥ = λ k m known. none_known before k m (ap (λ (l : List (Option Label)). slice_get l k) (sym none) ∙ known) in
     let unqueued : (e : Entry) → Contains queue e → ⊥ = λ e h. let h' : Contains {X = Entry} [] e = subst (λ (l : List Entry). Contains l e) empty h in omega (arith, h'.1) in
     record {
-      settling = λ edges costs target. record {
+      settling = λ points edges costs target. record {
         walks = λ k m known. absurd (unknown k m known);
         reached = λ k m known. absurd (unknown k m known);
         bounded = λ k m known. absurd (unknown k m known);
@@ -61,12 +61,12 @@ source_fair q key labels source starts within none = record {
 pub starting_more : (sources : List ℕ) (count : ℕ) (key : ℕ → ℕ → ℕ) (labels new : List (Option Label)) (queue now : List Entry) (source : ℕ) → slice_get sources count ≡ Some source → source < length labels → IsStarting sources count key labels queue → IsOffered key source (record { dist = 0; edge = 0; from = source; settled = false }) labels new queue now → IsStarting sources (count + 1) key new now × (length new ≡ length labels)
 starting_more sources count key labels new queue now source is within s offered =
     let starts : Contains sources source = (count, slice_get_within sources count source is, get_or_from_slice_get sources count source source is) in
-    let fair : (edges : ℕ → List (ℕ × ℕ)) (costs : ℕ → Option ℕ) → IsFair (asked edges costs sources) key labels source (record { dist = 0; edge = 0; from = source; settled = false }) = λ edges costs. source_fair (asked edges costs sources) key labels source starts within s.none_settled in
-    let take_it : (edges : ℕ → List (ℕ × ℕ)) (costs : ℕ → Option ℕ) (target : ℕ) → IsTaken (asked edges costs sources) key target (all_edges (asked edges costs sources)) source (record { dist = 0; edge = 0; from = source; settled = false }) labels new now =
-    λ edges costs target. taken (asked edges costs sources) key target (all_edges (asked edges costs sources)) labels queue now source (record { dist = 0; edge = 0; from = source; settled = false }) new (s.settling edges costs target) (fair edges costs) offered in
-    let t : IsTaken (asked (λ _. []) (λ _. None) sources) key 0 (all_edges (asked (λ _. []) (λ _. None) sources)) source (record { dist = 0; edge = 0; from = source; settled = false }) labels new now = take_it (λ _. []) (λ _. None) 0 in (
+    let fair : (points : ℕ) (edges : ℕ → List (ℕ × ℕ)) (costs : ℕ → Option ℕ) → IsFair (asked points edges costs sources) key labels source (record { dist = 0; edge = 0; from = source; settled = false }) = λ points edges costs. source_fair (asked points edges costs sources) key labels source starts within s.none_settled in
+    let take_it : (points : ℕ) (edges : ℕ → List (ℕ × ℕ)) (costs : ℕ → Option ℕ) (target : ℕ) → IsTaken (asked points edges costs sources) key target (all_edges (asked points edges costs sources)) source (record { dist = 0; edge = 0; from = source; settled = false }) labels new now =
+    λ points edges costs target. taken (asked points edges costs sources) key target (all_edges (asked points edges costs sources)) labels queue now source (record { dist = 0; edge = 0; from = source; settled = false }) new (s.settling points edges costs target) (fair points edges costs) offered in
+    let t : IsTaken (asked 0 (λ _. []) (λ _. None) sources) key 0 (all_edges (asked 0 (λ _. []) (λ _. None) sources)) source (record { dist = 0; edge = 0; from = source; settled = false }) labels new now = take_it 0 (λ _. []) (λ _. None) 0 in (
       record {
-        settling = λ edges costs target. (take_it edges costs target).settling;
+        settling = λ points edges costs target. (take_it points edges costs target).settling;
         sources_known = λ other among.
             elim (take_cases sources count source other is (subst (λ (n : ℕ). Contains (take n sources) other) (add-one count) among)) [
               | inl before ↦ let had : (l : Label) × IsKnown labels other l × (l.dist ≡ 0) = s.sources_known other before in t.free other had.0 had.1 had.2

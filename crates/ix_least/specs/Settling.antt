@@ -4,7 +4,7 @@ use Rattle.ix_least.specs.declared.labels.Label.{Label}
 use Rattle.ix_least.specs.declared.queue.Entry.{Entry}
 use Rattle.ix_least.specs.Labels.{IsKnown, open_weight}
 use Rattle.ix_least.specs.Queue.{Adds, Precedes}
-use Rattle.ix_least.specs.Walks.{Question, IsStep, HasWalk, IsDist, IsLastEdge}
+use Rattle.ix_least.specs.Walks.{Question, IsStep, HasWalk, IsDist, IsLastEdge, asked}
 
 -- the key of a point that is reached at a cost: with the bound on the way that is left, as far as numbers go
 abbrev pub key_of : (ℕ → ℕ) → ℕ → ℕ → ℕ
@@ -140,16 +140,12 @@ pub record IsFound (q : Question) (target : ℕ) (labels : List (Option Label)) 
   pub target_final : IsFinal q labels target label
   pub final : (point : ℕ) (other : Label) → IsKnown labels point other → other.settled ≡ true → IsFinal q labels point other
 
--- what is asked, of its parts
-abbrev pub asked : (ℕ → List (ℕ × ℕ)) → (ℕ → Option ℕ) → List ℕ → Question
-asked edges costs sources = record { edges = edges; costs = costs; sources = sources }
-
 -- a search from these sources was started, whatever the edges, the costs and the target
 pub record IsStarted (sources : List ℕ) (key : ℕ → ℕ → ℕ) (labels : List (Option Label)) (queue : List Entry) : Type 0 where
   pub sources_known : HasSources sources labels
-  pub settling : (edges : ℕ → List (ℕ × ℕ)) (costs : ℕ → Option ℕ) (target : ℕ) → IsSettling (asked edges costs sources) key target (all_edges (asked edges costs sources)) labels queue
+  pub settling : (points : ℕ) (edges : ℕ → List (ℕ × ℕ)) (costs : ℕ → Option ℕ) (target : ℕ) → IsSettling (asked points edges costs sources) key target (all_edges (asked points edges costs sources)) labels queue
 
 -- where a point was settled, and none of the edges out of it gone over, so many were now, whatever the sources and the target
-pub record LeavesUpTo (edges : ℕ → List (ℕ × ℕ)) (costs : ℕ → Option ℕ) (key : ℕ → ℕ → ℕ) (at dist count : ℕ) (old new : List (Option Label)) (before now : List Entry) : Type 0 where
-  pub leaving : (sources : List ℕ) (target : ℕ) → IsRising (asked edges costs sources) key → IsLeaving (asked edges costs sources) key target at dist 0 old before → IsLeaving (asked edges costs sources) key target at dist count new now
-  pub weights : (sources : List ℕ) (target : ℕ) → IsRising (asked edges costs sources) key → IsLeaving (asked edges costs sources) key target at dist 0 old before → (w : ℕ → ℕ) → open_weight w 0 new ≡ open_weight w 0 old
+pub record LeavesUpTo (points : ℕ) (edges : ℕ → List (ℕ × ℕ)) (costs : ℕ → Option ℕ) (key : ℕ → ℕ → ℕ) (at dist count : ℕ) (old new : List (Option Label)) (before now : List Entry) : Type 0 where
+  pub leaving : (sources : List ℕ) (target : ℕ) → IsRising (asked points edges costs sources) key → IsLeaving (asked points edges costs sources) key target at dist 0 old before → IsLeaving (asked points edges costs sources) key target at dist count new now
+  pub weights : (sources : List ℕ) (target : ℕ) → IsRising (asked points edges costs sources) key → IsLeaving (asked points edges costs sources) key target at dist 0 old before → (w : ℕ → ℕ) → open_weight w 0 new ≡ open_weight w 0 old

@@ -1,8 +1,10 @@
 -- Walks over the edges of a graph whose points cost something to enter, and the least of them.
-use Rattle.std.specs.Prelude.{◌≡◌, ℕ, ◌+◌, ◌≤◌, List, [], ◌∷◌, Contains, Option, Some}
+use Rattle.std.specs.Prelude.{◌≡◌, ℕ, ◌+◌, ◌<◌, ◌≤◌, List, [], ◌∷◌, Contains, Option, Some}
 
 -- what a search is asked, but for its target
 pub record Question : Type 0 where
+  -- how many points there are: their numbers are those below it
+  pub points : ℕ
   -- the edges out of a point: of each its number, and the point that it enters
   pub edges : ℕ → List (ℕ × ℕ)
   -- what it costs to enter a point, where it may be entered
@@ -10,8 +12,9 @@ pub record Question : Type 0 where
   -- the points from which walks start
   pub sources : List ℕ
 
--- the edge of this number leads from one point to another, which may be entered at this cost
+-- the edge of this number leads from one of the points to another, which may be entered at this cost
 pub record IsStep (q : Question) (from edge to cost : ℕ) : Type 0 where
+  pub inside : from < q.points
   pub leads : Contains (q.edges from) (edge, to)
   pub costs : q.costs to ≡ Some cost
 
@@ -73,3 +76,7 @@ pub record IsLeastWalk (q : Question) (target : ℕ) (path : Way) : Type 0 where
 pub record AreConsistent (q : Question) (bounds : ℕ → ℕ) (target : ℕ) : Type 0 where
   pub at_target : bounds target ≡ 0
   pub steps : (from edge to cost : ℕ) → IsStep q from edge to cost → bounds from ≤ cost + bounds to
+
+-- what is asked, of its parts
+abbrev pub asked : ℕ → (ℕ → List (ℕ × ℕ)) → (ℕ → Option ℕ) → List ℕ → Question
+asked points edges costs sources = record { points = points; edges = edges; costs = costs; sources = sources }

@@ -6,9 +6,9 @@
 //! their type, and the tie rule is met as soon as the target is taken.
 
 ghost use Rattle.std.specs.Prelude.{◌≡◌, ◌≢◌, ℕ, ◌+◌, ◌*◌, ◌^◌, ◌<◌, ◌≤◌, List, [], length, All, OnOk, IfOk, MatchBool};
-ghost use Rattle.ix_least.specs.Walks.{Question, HasWalk, IsLeastPath, IsLeastWalk};
+ghost use Rattle.ix_least.specs.Walks.{Question, HasWalk, IsLeastPath, IsLeastWalk, asked};
 ghost use Rattle.ix_least.specs.Labels.{open_weight};
-ghost use Rattle.ix_least.specs.Settling.{key_of, IsOffered, LeavesUpTo, IsStarted, IsFound, IsRising, asked};
+ghost use Rattle.ix_least.specs.Settling.{key_of, IsOffered, LeavesUpTo, IsStarted, IsFound, IsRising};
 
 use crate::asked::{Bounds, Costs, Edges};
 use crate::labels::{Label, Labels};
@@ -39,8 +39,8 @@ impl Front {
         requires few { length self.old.labels < 2 ^ 32 }
         requires points { E.point_count edges.now ≡ length self.old.labels }
         requires sources { All (λ source. source < length self.old.labels) sources.now }
-        requires rising { IsRising (asked (E.edges_out edges.now) (C.cost_at costs.now) sources.now) (key_of (B.bound_at bounds.now)) }
-        ensures found { IfOk result (λ found. MatchBool found (IsFound (asked (E.edges_out edges.now) (C.cost_at costs.now) sources.now) target self.new.labels) ((cost : ℕ) → HasWalk (asked (E.edges_out edges.now) (C.cost_at costs.now) sources.now) target cost → ⊥)) }
+        requires rising { IsRising (asked (E.point_count edges.now) (E.edges_out edges.now) (C.cost_at costs.now) sources.now) (key_of (B.bound_at bounds.now)) }
+        ensures found { IfOk result (λ found. MatchBool found (IsFound (asked (E.point_count edges.now) (E.edges_out edges.now) (C.cost_at costs.now) sources.now) target self.new.labels) ((cost : ℕ) → HasWalk (asked (E.point_count edges.now) (E.edges_out edges.now) (C.cost_at costs.now) sources.now) target cost → ⊥)) }
         ensures size { length self.new.labels ≡ length self.old.labels }
     {
         self.start(bounds, sources)?;
@@ -87,7 +87,7 @@ impl Front {
         requires points { E.point_count edges.now ≡ length self.old.labels }
         requires point { point < length self.old.labels }
         requires room { dist + 2 ^ 32 < 2 ^ 64 }
-        ensures left { OnOk result (LeavesUpTo (E.edges_out edges.now) (C.cost_at costs.now) (key_of (B.bound_at bounds.now)) point dist (length (E.edges_out edges.now point)) self.old.labels self.new.labels self.old.queue self.new.queue) }
+        ensures left { OnOk result (LeavesUpTo (E.point_count edges.now) (E.edges_out edges.now) (C.cost_at costs.now) (key_of (B.bound_at bounds.now)) point dist (length (E.edges_out edges.now point)) self.old.labels self.new.labels self.old.queue self.new.queue) }
         ensures queue { OnOk result (length self.new.queue ≤ length self.old.queue + length (E.edges_out edges.now point)) }
         ensures size { length self.new.labels ≡ length self.old.labels }
     {

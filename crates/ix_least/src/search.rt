@@ -1,8 +1,7 @@
 //! Searches.
 
 ghost use Rattle.std.specs.Prelude.{◌≡◌, ◌↔◌, ℕ, ◌<◌, All, IfOk, IfSome, IfNone};
-ghost use Rattle.ix_least.specs.Walks.{HasWalk, IsLeastPath, IsLeastWalk, AreConsistent};
-ghost use Rattle.ix_least.specs.Settling.{asked};
+ghost use Rattle.ix_least.specs.Walks.{HasWalk, IsLeastPath, IsLeastWalk, AreConsistent, asked};
 
 use crate::asked::{Bounds, Costs, Edges};
 use crate::front::Front;
@@ -71,9 +70,9 @@ impl Search {
         requires points { E.point_count edges.now ≡ self.old }
         requires sources { All (λ source. source < self.old) sources.now }
         requires target { target < self.old }
-        ensures path { IfOk result (λ answer. IfSome answer (IsLeastPath (asked (E.edges_out edges.now) (C.cost_at costs.now) sources.now) target)) }
-        ensures walk { IfOk result (λ answer. IfSome answer (IsLeastWalk (asked (E.edges_out edges.now) (C.cost_at costs.now) sources.now) target)) }
-        ensures none { IfOk result (λ answer. IfNone answer ((cost : ℕ) → HasWalk (asked (E.edges_out edges.now) (C.cost_at costs.now) sources.now) target cost → ⊥)) }
+        ensures path { IfOk result (λ answer. IfSome answer (IsLeastPath (asked (E.point_count edges.now) (E.edges_out edges.now) (C.cost_at costs.now) sources.now) target)) }
+        ensures walk { IfOk result (λ answer. IfSome answer (IsLeastWalk (asked (E.point_count edges.now) (E.edges_out edges.now) (C.cost_at costs.now) sources.now) target)) }
+        ensures none { IfOk result (λ answer. IfNone answer ((cost : ℕ) → HasWalk (asked (E.point_count edges.now) (E.edges_out edges.now) (C.cost_at costs.now) sources.now) target cost → ⊥)) }
         ensures points { self.new ≡ self.old }
     {
         self.find_bounded(edges, costs, &NoBounds, sources, target)
@@ -96,10 +95,10 @@ impl Search {
         requires points { E.point_count edges.now ≡ self.old }
         requires sources { All (λ source. source < self.old) sources.now }
         requires target { target < self.old }
-        requires bounds { AreConsistent (asked (E.edges_out edges.now) (C.cost_at costs.now) sources.now) (B.bound_at bounds.now) target }
-        ensures path { IfOk result (λ answer. IfSome answer (IsLeastPath (asked (E.edges_out edges.now) (C.cost_at costs.now) sources.now) target)) }
-        ensures walk { IfOk result (λ answer. IfSome answer (IsLeastWalk (asked (E.edges_out edges.now) (C.cost_at costs.now) sources.now) target)) }
-        ensures none { IfOk result (λ answer. IfNone answer ((cost : ℕ) → HasWalk (asked (E.edges_out edges.now) (C.cost_at costs.now) sources.now) target cost → ⊥)) }
+        requires bounds { AreConsistent (asked (E.point_count edges.now) (E.edges_out edges.now) (C.cost_at costs.now) sources.now) (B.bound_at bounds.now) target }
+        ensures path { IfOk result (λ answer. IfSome answer (IsLeastPath (asked (E.point_count edges.now) (E.edges_out edges.now) (C.cost_at costs.now) sources.now) target)) }
+        ensures walk { IfOk result (λ answer. IfSome answer (IsLeastWalk (asked (E.point_count edges.now) (E.edges_out edges.now) (C.cost_at costs.now) sources.now) target)) }
+        ensures none { IfOk result (λ answer. IfNone answer ((cost : ℕ) → HasWalk (asked (E.point_count edges.now) (E.edges_out edges.now) (C.cost_at costs.now) sources.now) target cost → ⊥)) }
         ensures points { self.new ≡ self.old }
     {
         if self.front.reach(edges, costs, bounds, sources, target)? {

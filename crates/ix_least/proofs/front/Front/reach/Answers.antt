@@ -1,6 +1,7 @@
 use Rattle.std.proofs.Common.{◌≡◌, ◌∙◌, ◌+◌, ◌≤◌, List, Option, ap, length, subst, sym, refl, arith}
 use Rattle.ix_least.specs.declared.labels.Label.{Label}
-use Rattle.ix_least.specs.Settling.{IsSettling, all_edges, asked, HasSources, key_of}
+use Rattle.ix_least.specs.Settling.{IsSettling, all_edges, HasSources, key_of}
+use Rattle.ix_least.specs.Walks.{asked}
 use Rattle.ix_least.proofs.Finals.{found, no_walk}
 use Rattle.ix_least.proofs.Reaching.{entry_within}
 use Rattle.ix_least.proofs.Steps.{settle_point, stale, leave_end}
@@ -40,7 +41,7 @@ loop-entry-preserved-in-Continue-branch-2 g c =
 
 pub loop-entry-preserved : goal.loop-entry-preserved
 loop-entry-preserved g c = record {
-  settling = subst (λ (labels : List (Option Label)). IsSettling (asked (g.E.Edges.edges_out c.args.edges.now) (g.C.Costs.cost_at c.args.costs.now) c.args.sources.now) (key_of (g.B.Bounds.bound_at c.args.bounds.now)) c.args.target (all_edges (asked (g.E.Edges.edges_out c.args.edges.now) (g.C.Costs.cost_at c.args.costs.now) c.args.sources.now)) labels c.pop.new.self) (sym c.in_default-settle.ensures.unchanged)
+  settling = subst (λ (labels : List (Option Label)). IsSettling (asked (g.E.Edges.point_count c.args.edges.now) (g.E.Edges.edges_out c.args.edges.now) (g.C.Costs.cost_at c.args.costs.now) c.args.sources.now) (key_of (g.B.Bounds.bound_at c.args.bounds.now)) c.args.target (all_edges (asked (g.E.Edges.point_count c.args.edges.now) (g.E.Edges.edges_out c.args.edges.now) (g.C.Costs.cost_at c.args.costs.now) c.args.sources.now)) labels c.pop.new.self) (sym c.in_default-settle.ensures.unchanged)
       (stale _ _ _ _ _ _ c.in-Some.entry c.loop-entry.invariant.settling c.in-Some.ensures.taken c.in_default-settle.ensures.before);
   sources = subst (λ (labels : List (Option Label)). HasSources c.args.sources.now labels) (sym c.in_default-settle.ensures.unchanged) c.loop-entry.invariant.sources;
   size = ap length c.in_default-settle.ensures.unchanged ∙ c.loop-entry.invariant.size;

@@ -8,3 +8,4 @@ pub mod Finals
 pub mod Starting
 pub mod Tracing
 pub mod Reaching
+pub mod Uniqueness

@@ -29,7 +29,7 @@ module _ (points : ℕ) (edges : ℕ → List (ℕ × ℕ)) (costs : ℕ → Opt
   pub leaves_more : at < points → LeavesUpTo points edges costs key at dist count old labels before queue → (edge to cost : ℕ) → slice_get (edges at) count ≡ Some (edge, to) → Some cost ≡ costs to → 1 ≤ cost → cost ≤ 2 ^ 32 → to < length labels → (new : List (Option Label)) (now : List Entry) → IsOffered key to (entering at (dist + cost) edge) labels new queue now → LeavesUpTo points edges costs key at dist (count + 1) old new before now
   leaves_more within_at u edge to cost is costs_is some small within new now offered =
       let step : (sources : List ℕ) → IsStep (asked points edges costs sources) at edge to cost = λ sources. record {
-      inside = within_at;
+        inside = within_at;
         leads = (count, slice_get_within (edges at) count (edge, to) is, get_or_from_slice_get (edges at) count (edge, to) (edge, to) is);
         costs = sym costs_is;
       } in

@@ -72,6 +72,17 @@ pub record IsLeastWalk (q : Question) (target : ℕ) (path : Way) : Type 0 where
   pub walk : IsWalk q path.source path.edges target cost
   pub dist : IsDist q target cost
 
+-- no two edges have one number
+abbrev pub NumbersDiffer : Question → Type 0
+NumbersDiffer q =
+    (from other edge to end : ℕ) → from < q.points → other < q.points → Contains (q.edges from) (edge, to) → Contains (q.edges other) (edge, end) →
+    (from ≡ other) × (to ≡ end)
+
+-- where no two edges have one number there is no other least path
+abbrev pub LeastPathsAreOne : Type 0
+LeastPathsAreOne =
+    (q : Question) (target : ℕ) (path other : Way) → NumbersDiffer q → IsLeastPath q target path → IsLeastPath q target other → path ≡ other
+
 -- each point's bound is at most what the step to a next one costs, and that one's bound
 pub record AreConsistent (q : Question) (bounds : ℕ → ℕ) (target : ℕ) : Type 0 where
   pub at_target : bounds target ≡ 0

@@ -1,5 +1,5 @@
 -- What a heap's clauses say of a queue.
-use Rattle.std.proofs.Common.{◌≡◌, ℕ, ◌+◌, ◌<◌, ◌≤◌, ◌⊎◌, inl, inr, Bool, false, List, [], ◌∷◌, length, refl, sym, ◌∙◌, ap, subst, arith, Contains, Option, Some, None, IfSome, zero, suc}
+use Rattle.std.proofs.Common.{◌≡◌, ℕ, ◌+◌, ◌<◌, ◌≤◌, ◌⊎◌, inl, inr, Bool, false, List, [], ◌∷◌, length, refl, sym, ◌∙◌, ap, subst, arith, Contains, map, zero, suc}
 use Rattle.std.specs.BinaryHeap.{lt_by_cmp, IsUpperBound, IsHeap, PopsGreatest}
 use Rattle.std.specs.List.{AllByRecursion, slice_index_or}
 use Rattle.std.specs.List.Sorted.{IsPermutation}
@@ -9,13 +9,10 @@ use Rattle.std.specs.declared.cmp.Ordering.TheVariants.{Less, Equal, Greater}
 use Rattle.std.proofs.lemmas.Cmp.{ranked}
 use Rattle.std.proofs.lemmas.Grind.{common_steps}
 use Rattle.std.proofs.lemmas.List.Elements.{All-contains}
-use Rattle.std.proofs.lemmas.List.Sorted.{Contains-permutation, IsPermutation-sym, length_permutation}
+use Rattle.std.proofs.lemmas.List.Sorted.{Contains-permutation, IsPermutation-sym, IsPermutation-map, length_permutation}
 use Rattle.ix_least.specs.declared.queue.Entry.{Entry}
-use Rattle.ix_least.specs.Queue.{Adds, Takes, Precedes}
-
--- the order of the heap
-abbrev pub entry_cmp : Entry → Entry → Ordering
-entry_cmp = then_cmp (flip_args (on (λ e. e.key) nat_cmp)) (then_cmp (flip_args (on (λ e. e.dist) nat_cmp)) (on (λ e. e.point) nat_cmp))
+use Rattle.ix_least.specs.declared.queue.Near.{Near}
+use Rattle.ix_least.specs.Queue.{Adds, Takes, TakesPoint, Precedes, entry_cmp, near_cmp, near_entry}
 
 -- what two comparisons say where the first entry isn't less
 not_less : (a b c : Ordering) (k l d e : ℕ) → MatchOrdering a (l < k) (l ≡ k) (k < l) → MatchOrdering b (e < d) (e ≡ d) (d < e) → is_lt (ordering_then a (ordering_then b c)) ≡ false → (k < l) ⊎ ((k ≡ l) × (d ≤ e))
@@ -24,6 +21,11 @@ not_less Greater b c k l d e p q h = inl p
 not_less Equal Less c k l d e p q h = cc
 not_less Equal Equal c k l d e p q h = inr (sym p, omega arith)
 not_less Equal Greater c k l d e p q h = inr (sym p, omega arith)
+
+not_less_near : (b c : Ordering) (d e : ℕ) → MatchOrdering b (e < d) (e ≡ d) (d < e) → is_lt (ordering_then b c) ≡ false → (d < e) ⊎ (d ≡ e)
+not_less_near Less c d e q h = cc
+not_less_near Equal c d e q h = inr (sym q)
+not_less_near Greater c d e q h = inl q
 
 -- an entry that isn't less than another comes no later
 pub precedes_from_order : (x y : Entry) → lt_by_cmp entry_cmp x y ≡ false → Precedes x.key x.dist y
@@ -51,16 +53,37 @@ adds_from_push entry old new p = record {
   adds_no_other = λ e h. cons_cases entry e old (Contains-permutation new (entry ∷ old) e (IsPermutation-sym (entry ∷ old) new p) h);
 }
 
-pub takes_from_pop : (entry : Entry) (old new : List Entry) → IsPermutation old (entry ∷ new) → IsUpperBound entry_cmp entry old → Takes entry old new
-takes_from_pop entry old new p u = record {
+-- an entry is taken before which none comes
+takes_from : (entry : Entry) (old new : List Entry) → IsPermutation old (entry ∷ new) → AllByRecursion (λ e. Precedes entry.key entry.dist e) old → Takes entry old new
+takes_from entry old new p all = record {
   shrinks = omega (arith, length_permutation old (entry ∷ new) p);
   had = Contains-permutation (entry ∷ new) old entry (IsPermutation-sym old (entry ∷ new) p) (zero, omega arith, refl);
-  first = λ e h. precedes_from_order entry e (by_recursion (λ y. lt_by_cmp entry_cmp entry y ≡ false) old e u h);
+  first = λ e h. by_recursion (λ y. Precedes entry.key entry.dist y) old e all h;
   keeps = λ e h. cons_cases entry e new (Contains-permutation old (entry ∷ new) e p h);
   adds_none = λ e h. Contains-permutation (entry ∷ new) old e (IsPermutation-sym old (entry ∷ new) p) (in_cons entry e new h);
 }
 
+all_later : (x : Entry) (old : List Entry) → IsUpperBound entry_cmp x old → AllByRecursion (λ e. Precedes x.key x.dist e) old
+all_later x [] h = tt
+all_later x (y ∷ ys) h = (precedes_from_order x y h.0, all_later x ys h.1)
+
 -- what a pop of a heap in order took
-pub takes_from_heap : (r : Option Entry) (old new : List Entry) → IsHeap entry_cmp old → IfSome r (λ x. IsPermutation old (x ∷ new)) → IfSome r (λ x. PopsGreatest entry_cmp old x new) → IfSome r (λ x. Takes x old new)
-takes_from_heap None old new heap p g = tt
-takes_from_heap (Some x) old new heap p g = takes_from_pop x old new p ((g heap).1)
+pub takes_from_pop : (entry : Entry) (old new : List Entry) → IsHeap entry_cmp old → IsPermutation old (entry ∷ new) → PopsGreatest entry_cmp old entry new → TakesPoint entry.point old new
+takes_from_pop entry old new heap p g = record { key = entry.key; dist = entry.dist; takes = takes_from entry old new p (all_later entry old (g heap).1) }
+
+-- the same of points whose keys are their costs
+near_precedes : (x y : Near) → lt_by_cmp near_cmp x y ≡ false → Precedes x.dist x.dist (near_entry y)
+near_precedes x y h =
+    elim (not_less_near (nat_cmp y.dist x.dist) (nat_cmp x.point y.point) x.dist y.dist (ranked y.dist x.dist _ refl) h) [ inl less ↦ inl less | inr same ↦ inr (same, omega arith) ]
+
+all_near_later : (x : Near) (old : List Near) → IsUpperBound near_cmp x old → AllByRecursion (λ e. Precedes x.dist x.dist e) (map near_entry old)
+all_near_later x [] h = tt
+all_near_later x (y ∷ ys) h = (near_precedes x y h.0, all_near_later x ys h.1)
+
+pub near_takes_from_pop : (near : Near) (old new : List Near) → IsHeap near_cmp old → IsPermutation old (near ∷ new) → PopsGreatest near_cmp old near new → TakesPoint near.point (map near_entry old) (map near_entry new)
+near_takes_from_pop near old new heap p g = record { key = near.dist; dist = near.dist; takes = takes_from (near_entry near) (map near_entry old) (map near_entry new) (IsPermutation-map near_entry old (near ∷ new) p) (all_near_later near old (g heap).1) }
+
+pub near_adds_from_push : (near : Near) (old new : List Near) → IsPermutation (near ∷ old) new → (key : ℕ) → key ≡ near.dist → Adds (record { key = key; dist = near.dist; point = near.point }) (map near_entry old) (map near_entry new)
+near_adds_from_push near old new p key same =
+    subst (λ (k : ℕ). Adds (record { key = k; dist = near.dist; point = near.point }) (map near_entry old) (map near_entry new)) (sym same)
+    (adds_from_push (near_entry near) (map near_entry old) (map near_entry new) (IsPermutation-map near_entry (near ∷ old) new p))

@@ -4,10 +4,10 @@ ghost use Rattle.std.specs.Prelude.{◌≡◌, ◌↔◌, ℕ, ◌<◌, All, IfO
 ghost use Rattle.ix_least.specs.Walks.{HasWalk, IsLeastPath, IsLeastWalk, AreConsistent, asked};
 
 use crate::asked::{Bounds, Costs, Edges};
-use crate::front::Front;
+use crate::front::{reach, trace};
 use crate::labels::Labels;
 use crate::path::Path;
-use crate::queue::Queue;
+use crate::queue::{KeyQueue, NearQueue};
 use ix_num::Memory;
 use std::alloc::Global;
 use std::marker::Model;
@@ -16,7 +16,10 @@ use std::marker::Model;
 /// changes no answer.
 #[derive(Drop)]
 pub struct Search {
-    front: Front,
+    labels: Labels,
+    // For searches without bounds, and for those with them.
+    near: NearQueue,
+    keyed: KeyQueue,
     alloc: Global,
 }
 
@@ -25,9 +28,9 @@ impl Model for Search {
 
     ghost Value = { ℕ };
 
-    ghost view = { λ s. length s.front.labels };
+    ghost view = { λ s. length s.labels };
 
-    ghost invariant = { λ s. length s.front.labels < 2 ^ 32 };
+    ghost invariant = { λ s. length s.labels < 2 ^ 32 };
 }
 
 impl Search {
@@ -40,10 +43,9 @@ impl Search {
         ensures { IfOk result (λ search. search ≡ points) }
     {
         Ok(Search {
-            front: Front {
-                labels: Labels::new(alloc, points)?,
-                queue: Queue::new(alloc),
-            },
+            labels: Labels::new(alloc, points)?,
+            near: NearQueue::new(alloc),
+            keyed: KeyQueue::new(alloc),
             alloc,
         })
     }
@@ -75,7 +77,19 @@ impl Search {
         ensures none { IfOk result (λ answer. IfNone answer ((cost : ℕ) → HasWalk (asked (E.point_count edges.now) (E.edges_out edges.now) (C.cost_at costs.now) sources.now) target cost → ⊥)) }
         ensures points { self.new ≡ self.old }
     {
-        self.find_bounded(edges, costs, &NoBounds, sources, target)
+        if reach(
+            &mut self.labels,
+            &mut self.near,
+            edges,
+            costs,
+            &NoBounds,
+            sources,
+            target,
+        )? {
+            Ok(Some(trace(&self.labels, self.alloc, target)?))
+        } else {
+            Ok(None)
+        }
     }
 
     /// As `find`, and the answer is the same, ties included. The bounds lead the search towards the target: the nearer they
@@ -101,8 +115,16 @@ impl Search {
         ensures none { IfOk result (λ answer. IfNone answer ((cost : ℕ) → HasWalk (asked (E.point_count edges.now) (E.edges_out edges.now) (C.cost_at costs.now) sources.now) target cost → ⊥)) }
         ensures points { self.new ≡ self.old }
     {
-        if self.front.reach(edges, costs, bounds, sources, target)? {
-            Ok(Some(self.front.trace(self.alloc, target)?))
+        if reach(
+            &mut self.labels,
+            &mut self.keyed,
+            edges,
+            costs,
+            bounds,
+            sources,
+            target,
+        )? {
+            Ok(Some(trace(&self.labels, self.alloc, target)?))
         } else {
             Ok(None)
         }

@@ -1,5 +1,6 @@
 -- What a search knows of each point, as a list by point.
-use Rattle.std.specs.Prelude.{◌≡◌, ℕ, ◌+◌, ◌≤◌, Bool, true, false, List, [], ◌∷◌, All, Option, Some, None, slice_get, slice_set, nat_eq, nat_lt, if◌then◌else◌}
+use Rattle.std.specs.Prelude.{◌≡◌, ℕ, ◌+◌, true, false, List, [], ◌∷◌, Option, Some, None}
+use Rattle.std.specs.Prelude.{slice_get, slice_set, nat_eq, nat_lt, if◌then◌else◌}
 use Rattle.ix_least.specs.declared.labels.Label.{Label}
 use Rattle.ix_least.specs.declared.labels.Slot.{Slot}
 
@@ -7,7 +8,13 @@ use Rattle.ix_least.specs.declared.labels.Slot.{Slot}
 unfoldable pub label_in : ℕ → Slot → Option Label
 label_in search slot =
     if nat_eq slot.search search
-    then Some (record { dist = slot.dist; edge = slot.edge; from = slot.from; settled = slot.settled })
+    then Some (record {
+      dist = slot.dist;
+      edge = slot.edge;
+      from = slot.from;
+      settled =
+          slot.settled;
+    })
     else None
 
 -- the point was reached, with this label
@@ -33,4 +40,5 @@ open_weight weight point (Some label ∷ labels) =
 unfoldable pub count_above : ℕ → List (Option Label) → ℕ
 count_above dist [] = 0
 count_above dist (None ∷ labels) = count_above dist labels
-count_above dist (Some label ∷ labels) = (if nat_lt dist label.dist then 1 else 0) + count_above dist labels
+count_above dist (Some label ∷ labels) = (if nat_lt dist label.dist then 1 else 0) + count_above
+    dist labels

@@ -1,5 +1,6 @@
 -- What a search knows of the walks from the sources while it goes on.
-use Rattle.std.specs.Prelude.{◌≡◌, ◌≢◌, ℕ, ◌+◌, ◌-◌, ◌*◌, ◌^◌, ◌<◌, ◌≤◌, ◌⊎◌, true, false, List, [], length, min, slice_set, take, Contains, Option, Some}
+use Rattle.std.specs.Prelude.{◌≡◌, ◌≢◌, ℕ, ◌+◌, ◌-◌, ◌*◌, ◌^◌, ◌<◌, ◌≤◌, ◌⊎◌, true, false, List}
+use Rattle.std.specs.Prelude.{length, min, slice_set, take, Contains, Option, Some}
 use Rattle.ix_least.specs.declared.labels.Label.{Label}
 use Rattle.ix_least.specs.declared.queue.Entry.{Entry}
 use Rattle.ix_least.specs.Labels.{IsKnown, open_weight}
@@ -15,7 +16,8 @@ abbrev pub IsNoWorse : Label → ℕ → ℕ → Type 0
 IsNoWorse label dist edge = (label.dist < dist) ⊎ ((label.dist ≡ dist) × (label.edge ≤ edge))
 
 -- the label is one of a walk's last edge, which leads from a settled point
-pub record IsEntered (q : Question) (labels : List (Option Label)) (point : ℕ) (label : Label) : Type 0 where
+pub record IsEntered (q : Question) (labels : List (Option Label)) (point : ℕ)
+    (label : Label) : Type 0 where
   pub cost : ℕ
   pub last : Label
   pub known : IsKnown labels label.from last
@@ -30,7 +32,8 @@ IsReached q labels point label =
     (Contains q.sources point × (label.dist ≡ 0)) ⊎ IsEntered q labels point label
 
 -- a label of a point was offered, and the old one is as good
-pub record IsKept (point : ℕ) (label : Label) (old new : List (Option Label)) (before now : List Entry) : Type 0 where
+pub record IsKept (point : ℕ) (label : Label) (old new : List (Option Label))
+    (before now : List Entry) : Type 0 where
   pub held : Label
   pub known : IsKnown old point held
   pub no_worse : IsNoWorse held label.dist label.edge
@@ -38,7 +41,8 @@ pub record IsKept (point : ℕ) (label : Label) (old new : List (Option Label)) 
   pub queue : now ≡ before
 
 -- a label was offered, which ties the old one by a lower edge
-pub record IsRetied (point : ℕ) (label : Label) (old new : List (Option Label)) (before now : List Entry) : Type 0 where
+pub record IsRetied (point : ℕ) (label : Label) (old new : List (Option Label))
+    (before now : List Entry) : Type 0 where
   pub held : Label
   pub known : IsKnown old point held
   pub tied : label.dist ≡ held.dist
@@ -47,15 +51,19 @@ pub record IsRetied (point : ℕ) (label : Label) (old new : List (Option Label)
   pub queue : now ≡ before
 
 -- a label was offered, which costs less than the old one, or there is none
-pub record IsLowered (key : ℕ → ℕ → ℕ) (point : ℕ) (label : Label) (old new : List (Option Label)) (before now : List Entry) : Type 0 where
+pub record IsLowered (key : ℕ → ℕ → ℕ) (point : ℕ) (label : Label) (old new : List (Option Label))
+    (before now : List Entry) : Type 0 where
   pub less : (held : Label) → IsKnown old point held → label.dist < held.dist
   pub labels : new ≡ slice_set old point (Some label)
-  pub queue : Adds (record { key = key point label.dist; dist = label.dist; point = point }) before now
+  pub queue : Adds (record { key = key point label.dist; dist = label.dist; point = point }) before
+      now
 
 -- what a label that is offered makes of the labels and the queue
-abbrev pub IsOffered : (ℕ → ℕ → ℕ) → ℕ → Label → List (Option Label) → List (Option Label) → List Entry → List Entry → Type 0
+abbrev pub IsOffered : (ℕ → ℕ → ℕ) → ℕ → Label → List (Option Label) → List (Option Label) →
+    List Entry → List Entry → Type 0
 IsOffered key point label old new before now =
-    IsKept point label old new before now ⊎ (IsRetied point label old new before now ⊎ IsLowered key point label old new before now)
+    IsKept point label old new before now ⊎ (IsRetied point label old new before now
+    ⊎ IsLowered key point label old new before now)
 
 -- the edge from a point of this cost was gone over: the point that it enters has a label that is no worse
 abbrev pub IsGoneOver : Question → List (Option Label) → ℕ → ℕ → ℕ → Type 0
@@ -73,9 +81,11 @@ edges_but q at count point edge =
     Contains (q.edges point) edge × (point ≡ at → Contains (take count (q.edges at)) edge)
 
 -- what is known of a settled point
-pub record IsLeft (q : Question) (key : ℕ → ℕ → ℕ) (target : ℕ) (due : ℕ → ℕ × ℕ → Type 0) (labels : List (Option Label)) (queue : List Entry) (point : ℕ) (label : Label) : Type 0 where
+pub record IsLeft (q : Question) (key : ℕ → ℕ → ℕ) (target : ℕ) (due : ℕ → ℕ × ℕ → Type 0)
+    (labels : List (Option Label)) (queue : List Entry) (point : ℕ) (label : Label) : Type 0 where
   pub no_target : point ≢ target
-  pub first : (entry : Entry) → Contains queue entry → Precedes (key point label.dist) label.dist entry
+  pub first : (entry : Entry) → Contains queue entry → Precedes (key point label.dist) label.dist
+      entry
   pub gone_over : (edge to : ℕ) → due point (edge, to) → IsGoneOver q labels label.dist edge to
 
 -- what an entry of the queue tells
@@ -97,37 +107,48 @@ abbrev pub open_count : List (Option Label) → ℕ
 open_count labels = open_weight (λ _. 1) 0 labels
 
 -- what holds of the labels and the queue as long as the target isn't settled
-pub record IsSettling (q : Question) (key : ℕ → ℕ → ℕ) (target : ℕ) (due : ℕ → ℕ × ℕ → Type 0) (labels : List (Option Label)) (queue : List Entry) : Type 0 where
+pub record IsSettling (q : Question) (key : ℕ → ℕ → ℕ) (target : ℕ) (due : ℕ → ℕ × ℕ → Type 0)
+    (labels : List (Option Label)) (queue : List Entry) : Type 0 where
   pub walks : (point : ℕ) (label : Label) → IsKnown labels point label → HasWalk q point label.dist
-  pub reached : (point : ℕ) (label : Label) → IsKnown labels point label → IsReached q labels point label
-  pub bounded : (point : ℕ) (label : Label) → IsKnown labels point label → label.dist + 2 ^ 32 * open_count labels ≤ 2 ^ 32 * length labels
-  pub unsettled : (point : ℕ) (label : Label) → IsKnown labels point label → label.settled ≡ false → HasEntry queue point label.dist
-  pub left : (point : ℕ) (label : Label) → IsKnown labels point label → label.settled ≡ true → IsLeft q key target due labels queue point label
+  pub reached : (point : ℕ) (label : Label) → IsKnown labels point label →
+      IsReached q labels point label
+  pub bounded : (point : ℕ) (label : Label) → IsKnown labels point label →
+      label.dist + 2 ^ 32 * open_count labels ≤ 2 ^ 32 * length labels
+  pub unsettled : (point : ℕ) (label : Label) → IsKnown labels point label → label.settled ≡ false →
+      HasEntry queue point label.dist
+  pub left : (point : ℕ) (label : Label) → IsKnown labels point label → label.settled ≡ true →
+      IsLeft q key target due labels queue point label
   pub entries : (entry : Entry) → Contains queue entry → IsQueued key labels entry
 
 -- each of the sources was reached at no cost
 abbrev pub HasSources : List ℕ → List (Option Label) → Type 0
 HasSources sources labels =
-    (source : ℕ) → Contains sources source → (label : Label) × IsKnown labels source label × (label.dist ≡ 0)
+    (source : ℕ) → Contains sources source → (label : Label) × IsKnown labels source label
+    × (label.dist ≡ 0)
 
 -- what holds while the edges out of the point that was settled last are gone over
-pub record IsLeaving (q : Question) (key : ℕ → ℕ → ℕ) (target at dist count : ℕ) (labels : List (Option Label)) (queue : List Entry) : Type 0 where
+pub record IsLeaving (q : Question) (key : ℕ → ℕ → ℕ) (target at dist count : ℕ)
+    (labels : List (Option Label)) (queue : List Entry) : Type 0 where
   pub settling : IsSettling q key target (edges_but q at count) labels queue
   pub sources : HasSources q.sources labels
   pub label : Label
   pub known : IsKnown labels at label
   pub settled : label.settled ≡ true
   pub dist_is : label.dist ≡ dist
-  pub latest : (point : ℕ) (other : Label) → IsKnown labels point other → other.settled ≡ true → (key point other.dist < key at dist) ⊎ ((key point other.dist ≡ key at dist) × (other.dist ≤ dist))
+  pub latest : (point : ℕ) (other : Label) → IsKnown labels point other → other.settled ≡ true →
+      (key point other.dist < key at dist) ⊎ ((key point other.dist ≡ key at dist)
+      × (other.dist ≤ dist))
   pub room : dist + 2 ^ 32 + 2 ^ 32 * open_count labels ≤ 2 ^ 32 * length labels
 
 -- the key never falls from a cost to a greater one, nor along a step
 pub record IsRising (q : Question) (key : ℕ → ℕ → ℕ) : Type 0 where
   pub with_cost : (point dist more : ℕ) → dist ≤ more → key point dist ≤ key point more
-  pub with_step : (from edge to cost dist : ℕ) → IsStep q from edge to cost → key from dist ≤ key to (dist + cost)
+  pub with_step : (from edge to cost dist : ℕ) → IsStep q from edge to cost →
+      key from dist ≤ key to (dist + cost)
 
 -- the label's cost is the least, and its edge is the one by which the least path enters the point
-pub record IsFinal (q : Question) (labels : List (Option Label)) (point : ℕ) (label : Label) : Type 0 where
+pub record IsFinal (q : Question) (labels : List (Option Label)) (point : ℕ)
+    (label : Label) : Type 0 where
   pub dist : IsDist q point label.dist
   pub source : label.dist ≡ 0 → Contains q.sources point
   pub last_edge : 0 < label.dist → IsLastEdge q label.from label.edge point
@@ -138,14 +159,24 @@ pub record IsFound (q : Question) (target : ℕ) (labels : List (Option Label)) 
   pub label : Label
   pub known : IsKnown labels target label
   pub target_final : IsFinal q labels target label
-  pub final : (point : ℕ) (other : Label) → IsKnown labels point other → other.settled ≡ true → IsFinal q labels point other
+  pub final : (point : ℕ) (other : Label) → IsKnown labels point other → other.settled ≡ true →
+      IsFinal q labels point other
 
 -- a search from these sources was started, whatever the edges, the costs and the target
-pub record IsStarted (sources : List ℕ) (key : ℕ → ℕ → ℕ) (labels : List (Option Label)) (queue : List Entry) : Type 0 where
+pub record IsStarted (sources : List ℕ) (key : ℕ → ℕ → ℕ) (labels : List (Option Label))
+    (queue : List Entry) : Type 0 where
   pub sources_known : HasSources sources labels
-  pub settling : (points : ℕ) (edges : ℕ → List (ℕ × ℕ)) (costs : ℕ → Option ℕ) (target : ℕ) → IsSettling (asked points edges costs sources) key target (all_edges (asked points edges costs sources)) labels queue
+  pub settling : (points : ℕ) (edges : ℕ → List (ℕ × ℕ)) (costs : ℕ → Option ℕ) (target : ℕ) →
+      IsSettling (asked points edges costs sources) key target
+      (all_edges (asked points edges costs sources)) labels queue
 
 -- where a point was settled, and none of the edges out of it gone over, so many were now, whatever the sources and the target
-pub record LeavesUpTo (points : ℕ) (edges : ℕ → List (ℕ × ℕ)) (costs : ℕ → Option ℕ) (key : ℕ → ℕ → ℕ) (at dist count : ℕ) (old new : List (Option Label)) (before now : List Entry) : Type 0 where
-  pub leaving : (sources : List ℕ) (target : ℕ) → IsRising (asked points edges costs sources) key → IsLeaving (asked points edges costs sources) key target at dist 0 old before → IsLeaving (asked points edges costs sources) key target at dist count new now
-  pub weights : (sources : List ℕ) (target : ℕ) → IsRising (asked points edges costs sources) key → IsLeaving (asked points edges costs sources) key target at dist 0 old before → (w : ℕ → ℕ) → open_weight w 0 new ≡ open_weight w 0 old
+pub record LeavesUpTo (points : ℕ) (edges : ℕ → List (ℕ × ℕ)) (costs : ℕ → Option ℕ)
+    (key : ℕ → ℕ → ℕ) (at dist count : ℕ) (old new : List (Option Label))
+    (before now : List Entry) : Type 0 where
+  pub leaving : (sources : List ℕ) (target : ℕ) → IsRising (asked points edges costs sources) key →
+      IsLeaving (asked points edges costs sources) key target at dist 0 old before →
+      IsLeaving (asked points edges costs sources) key target at dist count new now
+  pub weights : (sources : List ℕ) (target : ℕ) → IsRising (asked points edges costs sources) key →
+      IsLeaving (asked points edges costs sources) key target at dist 0 old before →
+      (w : ℕ → ℕ) → open_weight w 0 new ≡ open_weight w 0 old

@@ -75,13 +75,15 @@ pub record IsLeastWalk (q : Question) (target : ℕ) (path : Way) : Type 0 where
 -- no two edges have one number
 abbrev pub NumbersDiffer : Question → Type 0
 NumbersDiffer q =
-    (from other edge to end : ℕ) → from < q.points → other < q.points → Contains (q.edges from) (edge, to) → Contains (q.edges other) (edge, end) →
+    (from other edge to end : ℕ) → from < q.points → other < q.points →
+    Contains (q.edges from) (edge, to) → Contains (q.edges other) (edge, end) →
     (from ≡ other) × (to ≡ end)
 
 -- where no two edges have one number there is no other least path
 abbrev pub LeastPathsAreOne : Type 0
 LeastPathsAreOne =
-    (q : Question) (target : ℕ) (path other : Way) → NumbersDiffer q → IsLeastPath q target path → IsLeastPath q target other → path ≡ other
+    (q : Question) (target : ℕ) (path other : Way) → NumbersDiffer q → IsLeastPath q target path →
+    IsLeastPath q target other → path ≡ other
 
 -- each point's bound is at most what the step to a next one costs, and that one's bound
 pub record AreConsistent (q : Question) (bounds : ℕ → ℕ) (target : ℕ) : Type 0 where
@@ -90,4 +92,10 @@ pub record AreConsistent (q : Question) (bounds : ℕ → ℕ) (target : ℕ) : 
 
 -- what is asked, of its parts
 abbrev pub asked : ℕ → (ℕ → List (ℕ × ℕ)) → (ℕ → Option ℕ) → List ℕ → Question
-asked points edges costs sources = record { points = points; edges = edges; costs = costs; sources = sources }
+asked points edges costs sources = record {
+  points = points;
+  edges = edges;
+  costs = costs;
+  sources =
+      sources;
+}

@@ -30,9 +30,15 @@ pub(crate) fn reach<E: Edges, C: Costs, B: Bounds, Q: Queue>(
     requires few { length labels.old < 2 ^ 32 }
     requires points { E.point_count edges.now ≡ length labels.old }
     requires sources { All (λ source. source < length labels.old) sources.now }
-    requires fits { (p dist : ℕ) → dist < 2 ^ 64 → Q.fits (key_of (B.bound_at bounds.now) p dist) dist }
-    requires rising { IsRising (asked (E.point_count edges.now) (E.edges_out edges.now) (C.cost_at costs.now) sources.now) (key_of (B.bound_at bounds.now)) }
-    ensures found { IfOk result (λ found. MatchBool found (IsFound (asked (E.point_count edges.now) (E.edges_out edges.now) (C.cost_at costs.now) sources.now) target labels.new) ((cost : ℕ) → HasWalk (asked (E.point_count edges.now) (E.edges_out edges.now) (C.cost_at costs.now) sources.now) target cost → ⊥)) }
+    requires fits { (p dist : ℕ) → dist < 2 ^ 64 → Q.fits (key_of (B.bound_at bounds.now) p dist)
+        dist }
+    requires rising { IsRising (asked (E.point_count edges.now) (E.edges_out edges.now)
+        (C.cost_at costs.now) sources.now) (key_of (B.bound_at bounds.now)) }
+    ensures found { IfOk result (λ found. MatchBool found
+        (IsFound (asked (E.point_count edges.now) (E.edges_out edges.now)
+        (C.cost_at costs.now) sources.now) target labels.new)
+        ((cost : ℕ) → HasWalk (asked (E.point_count edges.now) (E.edges_out edges.now)
+        (C.cost_at costs.now) sources.now) target cost → ⊥)) }
     ensures size { length labels.new ≡ length labels.old }
 {
     start(labels, queue, bounds, sources)?;
@@ -55,8 +61,10 @@ fn start<B: Bounds, Q: Queue>(
     sources: &[u32],
 ) -> Result<(), Memory>
     requires sources { All (λ source. source < length labels.old) sources.now }
-    requires fits { (p dist : ℕ) → dist < 2 ^ 64 → Q.fits (key_of (B.bound_at bounds.now) p dist) dist }
-    ensures started { OnOk result (IsStarted sources.now (key_of (B.bound_at bounds.now)) labels.new (Q.entries queue.new)) }
+    requires fits { (p dist : ℕ) → dist < 2 ^ 64 → Q.fits (key_of (B.bound_at bounds.now) p dist)
+        dist }
+    ensures started { OnOk result (IsStarted sources.now (key_of (B.bound_at bounds.now)) labels.new
+        (Q.entries queue.new)) }
     ensures size { length labels.new ≡ length labels.old }
 {
     labels.begin();
@@ -86,9 +94,14 @@ fn leave<E: Edges, C: Costs, B: Bounds, Q: Queue>(
     requires points { E.point_count edges.now ≡ length labels.old }
     requires point { point < length labels.old }
     requires room { dist + 2 ^ 32 < 2 ^ 64 }
-    requires fits { (p dist : ℕ) → dist < 2 ^ 64 → Q.fits (key_of (B.bound_at bounds.now) p dist) dist }
-    ensures left { OnOk result (LeavesUpTo (E.point_count edges.now) (E.edges_out edges.now) (C.cost_at costs.now) (key_of (B.bound_at bounds.now)) point dist (length (E.edges_out edges.now point)) labels.old labels.new (Q.entries queue.old) (Q.entries queue.new)) }
-    ensures queue { OnOk result (length (Q.entries queue.new) ≤ length (Q.entries queue.old) + length (E.edges_out edges.now point)) }
+    requires fits { (p dist : ℕ) → dist < 2 ^ 64 → Q.fits (key_of (B.bound_at bounds.now) p dist)
+        dist }
+    ensures left { OnOk result (LeavesUpTo (E.point_count edges.now) (E.edges_out edges.now)
+        (C.cost_at costs.now) (key_of (B.bound_at bounds.now)) point dist
+        (length (E.edges_out edges.now point)) labels.old labels.new (Q.entries queue.old)
+        (Q.entries queue.new)) }
+    ensures queue { OnOk result (length (Q.entries queue.new) ≤ length
+        (Q.entries queue.old) + length (E.edges_out edges.now point)) }
     ensures size { length labels.new ≡ length labels.old }
 {
     for i in 0..edges.degree(point) {
@@ -115,8 +128,10 @@ fn offer<B: Bounds, Q: Queue>(
     label: Label,
 ) -> Result<(), Memory>
     requires point { point < length labels.old }
-    requires fits { (p dist : ℕ) → dist < 2 ^ 64 → Q.fits (key_of (B.bound_at bounds.now) p dist) dist }
-    ensures offered { OnOk result (IsOffered (key_of (B.bound_at bounds.now)) point label labels.old labels.new (Q.entries queue.old) (Q.entries queue.new)) }
+    requires fits { (p dist : ℕ) → dist < 2 ^ 64 → Q.fits (key_of (B.bound_at bounds.now) p dist)
+        dist }
+    ensures offered { OnOk result (IsOffered (key_of (B.bound_at bounds.now)) point label labels.old
+        labels.new (Q.entries queue.old) (Q.entries queue.new)) }
     ensures size { length labels.new ≡ length labels.old }
 {
     if let Some(held) = labels.at(point) {
@@ -140,8 +155,10 @@ fn offer<B: Bounds, Q: Queue>(
 pub(crate) fn trace(labels: &Labels, alloc: Global, target: u32) -> Result<Path, Memory>
     requires few { length labels.now < 2 ^ 32 }
     requires found { (q : Question) × IsFound q target labels.now }
-    ensures path { IfOk result (λ path. (q : Question) → IsFound q target labels.now → IsLeastPath q target path) }
-    ensures walk { IfOk result (λ path. (q : Question) → IsFound q target labels.now → IsLeastWalk q target path) }
+    ensures path { IfOk result (λ path. (q : Question) → IsFound q target labels.now →
+        IsLeastPath q target path) }
+    ensures walk { IfOk result (λ path. (q : Question) → IsFound q target labels.now →
+        IsLeastWalk q target path) }
 {
     let mut edges = Vec::new(alloc);
     let mut point = target;

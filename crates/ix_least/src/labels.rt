@@ -132,7 +132,8 @@ impl Labels {
     pub(crate) fn settle(&mut self, p: u32) -> Option<u64>
         requires { p < length self.old }
         ensures settled { IfSome result (λ dist. Settles p dist self.old self.new) }
-        ensures before { IfNone result ((label : Label) → IsKnown self.old p label → label.settled ≡ true) }
+        ensures before { IfNone result ((label : Label) → IsKnown self.old p label →
+            label.settled ≡ true) }
         ensures unchanged { IfNone result (self.new ≡ self.old) }
     {
         let slot = &mut self.slots[p as usize];

@@ -103,11 +103,13 @@ pub(crate) trait Queue {
     /// Adds a point.
     fn push(&mut self, key: u64, dist: u64, point: u32) -> Result<(), Memory>
         requires { fits key dist }
-        ensures { OnOk result (Adds (record { key = key; dist = dist; point = point }) (entries self.old) (entries self.new)) };
+        ensures { OnOk result (Adds (record { key = key; dist = dist; point = point })
+            (entries self.old) (entries self.new)) };
 
     /// Takes a point of an entry with the least key, and of these with the least cost.
     fn pop(&mut self) -> Option<u32>
-        ensures taken { IfSome result (λ point. TakesPoint point (entries self.old) (entries self.new)) }
+        ensures taken { IfSome result (λ point. TakesPoint point (entries self.old)
+            (entries self.new)) }
         ensures none { IfNone result (entries self.old ≡ []) };
 }
 

@@ -72,9 +72,15 @@ impl Search {
         requires points { E.point_count edges.now ≡ self.old }
         requires sources { All (λ source. source < self.old) sources.now }
         requires target { target < self.old }
-        ensures path { IfOk result (λ answer. IfSome answer (IsLeastPath (asked (E.point_count edges.now) (E.edges_out edges.now) (C.cost_at costs.now) sources.now) target)) }
-        ensures walk { IfOk result (λ answer. IfSome answer (IsLeastWalk (asked (E.point_count edges.now) (E.edges_out edges.now) (C.cost_at costs.now) sources.now) target)) }
-        ensures none { IfOk result (λ answer. IfNone answer ((cost : ℕ) → HasWalk (asked (E.point_count edges.now) (E.edges_out edges.now) (C.cost_at costs.now) sources.now) target cost → ⊥)) }
+        ensures path { IfOk result (λ answer. IfSome answer
+            (IsLeastPath (asked (E.point_count edges.now) (E.edges_out edges.now)
+            (C.cost_at costs.now) sources.now) target)) }
+        ensures walk { IfOk result (λ answer. IfSome answer
+            (IsLeastWalk (asked (E.point_count edges.now) (E.edges_out edges.now)
+            (C.cost_at costs.now) sources.now) target)) }
+        ensures none { IfOk result (λ answer. IfNone answer
+            ((cost : ℕ) → HasWalk (asked (E.point_count edges.now) (E.edges_out edges.now)
+            (C.cost_at costs.now) sources.now) target cost → ⊥)) }
         ensures points { self.new ≡ self.old }
     {
         if reach(
@@ -109,10 +115,17 @@ impl Search {
         requires points { E.point_count edges.now ≡ self.old }
         requires sources { All (λ source. source < self.old) sources.now }
         requires target { target < self.old }
-        requires bounds { AreConsistent (asked (E.point_count edges.now) (E.edges_out edges.now) (C.cost_at costs.now) sources.now) (B.bound_at bounds.now) target }
-        ensures path { IfOk result (λ answer. IfSome answer (IsLeastPath (asked (E.point_count edges.now) (E.edges_out edges.now) (C.cost_at costs.now) sources.now) target)) }
-        ensures walk { IfOk result (λ answer. IfSome answer (IsLeastWalk (asked (E.point_count edges.now) (E.edges_out edges.now) (C.cost_at costs.now) sources.now) target)) }
-        ensures none { IfOk result (λ answer. IfNone answer ((cost : ℕ) → HasWalk (asked (E.point_count edges.now) (E.edges_out edges.now) (C.cost_at costs.now) sources.now) target cost → ⊥)) }
+        requires bounds { AreConsistent (asked (E.point_count edges.now) (E.edges_out edges.now)
+            (C.cost_at costs.now) sources.now) (B.bound_at bounds.now) target }
+        ensures path { IfOk result (λ answer. IfSome answer
+            (IsLeastPath (asked (E.point_count edges.now) (E.edges_out edges.now)
+            (C.cost_at costs.now) sources.now) target)) }
+        ensures walk { IfOk result (λ answer. IfSome answer
+            (IsLeastWalk (asked (E.point_count edges.now) (E.edges_out edges.now)
+            (C.cost_at costs.now) sources.now) target)) }
+        ensures none { IfOk result (λ answer. IfNone answer
+            ((cost : ℕ) → HasWalk (asked (E.point_count edges.now) (E.edges_out edges.now)
+            (C.cost_at costs.now) sources.now) target cost → ⊥)) }
         ensures points { self.new ≡ self.old }
     {
         if reach(

@@ -8,7 +8,8 @@ use Rattle.ix_least.proofs.front.trace.Given as goal
 abbrev pub invariant-loop-label : goal.invariant-loop-label
 invariant-loop-label l = record {
   known : IsKnown l.labels l.point l.label;
-  tracing : (q : Question) → IsFound q l.target l.labels → IsTracing q l.target l.labels l.point l.label (reverse l.edges.items);
+  tracing : (q : Question) → IsFound q l.target l.labels →
+      IsTracing q l.target l.labels l.point l.label (reverse l.edges.items);
 }
 
 abbrev pub decreases-loop-label : goal.decreases-loop-label

@@ -4,4 +4,5 @@ use Rattle.ix_least.specs.declared.labels.Slot.{Slot}
 use Rattle.ix_least.proofs.labels.forget.Given as goal
 
 abbrev pub invariant-loop-slot : goal.invariant-loop-slot
-invariant-loop-slot l = (k : ℕ) (d : Slot) → k < l.slot-index → (slice_index_or l.slots k d).search ≡ 0
+invariant-loop-slot l = (k : ℕ) (d : Slot) → k < l.slot-index →
+    (slice_index_or l.slots k d).search ≡ 0

@@ -7,11 +7,13 @@ use Rattle.ix_least.specs.Labels.{IsKnown, open_weight}
 use Rattle.ix_least.specs.Queue.{Adds, Precedes}
 use Rattle.ix_least.specs.Walks.{Question, IsStep, HasWalk, IsDist, IsLastEdge, asked}
 
--- the key of a point that is reached at a cost: with the bound on the way that is left, as far as numbers go
+-- the key of a point that is reached at a cost: with the bound on the way that is left, as far as
+-- numbers go
 abbrev pub key_of : (ℕ → ℕ) → ℕ → ℕ → ℕ
 key_of bounds point dist = min (dist + bounds point) (2 ^ 64 - 1)
 
--- the label is no worse than that of another walk: it costs less, or as much by an edge whose number is no greater
+-- the label is no worse than that of another walk: it costs less, or as much by an edge whose
+-- number is no greater
 abbrev pub IsNoWorse : Label → ℕ → ℕ → Type 0
 IsNoWorse label dist edge = (label.dist < dist) ⊎ ((label.dist ≡ dist) × (label.edge ≤ edge))
 
@@ -65,7 +67,8 @@ IsOffered key point label old new before now =
     IsKept point label old new before now ⊎ (IsRetied point label old new before now
     ⊎ IsLowered key point label old new before now)
 
--- the edge from a point of this cost was gone over: the point that it enters has a label that is no worse
+-- the edge from a point of this cost was gone over: the point that it enters has a label that is no
+-- worse
 abbrev pub IsGoneOver : Question → List (Option Label) → ℕ → ℕ → ℕ → Type 0
 IsGoneOver q labels dist edge to =
     (cost : ℕ) → q.costs to ≡ Some cost →
@@ -170,7 +173,8 @@ pub record IsStarted (sources : List ℕ) (key : ℕ → ℕ → ℕ) (labels : 
       IsSettling (asked points edges costs sources) key target
       (all_edges (asked points edges costs sources)) labels queue
 
--- where a point was settled, and none of the edges out of it gone over, so many were now, whatever the sources and the target
+-- where a point was settled, and none of the edges out of it gone over, so many were now, whatever
+-- the sources and the target
 pub record LeavesUpTo (points : ℕ) (edges : ℕ → List (ℕ × ℕ)) (costs : ℕ → Option ℕ)
     (key : ℕ → ℕ → ℕ) (at dist count : ℕ) (old new : List (Option Label))
     (before now : List Entry) : Type 0 where

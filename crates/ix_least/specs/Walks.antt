@@ -12,13 +12,15 @@ pub record Question : Type 0 where
   -- the points from which walks start
   pub sources : List ℕ
 
--- the edge of this number leads from one of the points to another, which may be entered at this cost
+-- the edge of this number leads from one of the points to another, which may be entered at this
+-- cost
 pub record IsStep (q : Question) (from edge to cost : ℕ) : Type 0 where
   pub inside : from < q.points
   pub leads : Contains (q.edges from) (edge, to)
   pub costs : q.costs to ≡ Some cost
 
--- each edge begins where the last one ended, and the cost is the sum of the costs of the points entered
+-- each edge begins where the last one ended, and the cost is the sum of the costs of the points
+-- entered
 unfoldable pub IsWalk : Question → ℕ → List (ℕ × ℕ) → ℕ → ℕ → Type 0
 IsWalk q from [] to cost = (from ≡ to) × (cost ≡ 0)
 IsWalk q from (edge ∷ edges) to cost =
@@ -45,7 +47,8 @@ pub record IsTied (q : Question) (from edge to : ℕ) : Type 0 where
   pub from_dist : IsDist q from dist
   pub to_dist : IsDist q to (dist + cost)
 
--- the edge by which the least path enters a point that is no source: of those that tie the one with the least number
+-- the edge by which the least path enters a point that is no source: of those that tie the one with
+-- the least number
 pub record IsLastEdge (q : Question) (from edge to : ℕ) : Type 0 where
   pub no_source : ¬ Contains q.sources to
   pub tied : IsTied q from edge to

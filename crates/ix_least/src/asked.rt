@@ -4,8 +4,8 @@ ghost use Rattle.std.specs.Prelude.{◌≡◌, ℕ, ◌^◌, ◌<◌, ◌≤◌,
 
 /// A graph: points, numbered from 0, and the edges out of each.
 ///
-/// Each edge has a number of its own. Where two edges had the same, a search would still answer a path that the tie rule
-/// allows.
+/// Each edge has a number of its own. Where two edges had the same, a search would still answer a
+/// path that the tie rule allows.
 pub trait Edges {
     /// How many points there are.
     ghost point_count: { Self → ℕ };

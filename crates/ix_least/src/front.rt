@@ -1,9 +1,10 @@
 //! The front of a search: the points reached and those to be settled.
 //!
-//! The search is Dijkstra's with a bound on the way that is left added to each key (E. W. Dijkstra, 1959; P. E. Hart, N. J.
-//! Nilsson and B. Raphael, 1968). It departs from these where keys are equal: points of one key are settled by rising
-//! cost. So each point by which a least path may enter another is settled before it, also where keys reach the end of
-//! their type, and the tie rule is met as soon as the target is taken.
+//! The search is Dijkstra's with a bound on the way that is left added to each key (E. W. Dijkstra,
+//! 1959; P. E. Hart, N. J. Nilsson and B. Raphael, 1968). It departs from these where keys are
+//! equal: points of one key are settled by rising cost. So each point by which a least path may
+//! enter another is settled before it, also where keys reach the end of their type, and the tie
+//! rule is met as soon as the target is taken.
 
 ghost use Rattle.std.specs.Prelude.{◌≡◌, ◌≢◌, ℕ, ◌+◌, ◌*◌, ◌^◌, ◌<◌, ◌≤◌, List, [], length, All, OnOk, IfOk, MatchBool};
 ghost use Rattle.ix_least.specs.Walks.{Question, HasWalk, IsLeastPath, IsLeastWalk, asked};
@@ -119,7 +120,8 @@ fn leave<E: Edges, C: Costs, B: Bounds, Q: Queue>(
     Ok(())
 }
 
-/// Offers a label of a point. It is taken where it costs less than the point's own, or as much by a lower edge.
+/// Offers a label of a point. It is taken where it costs less than the point's own, or as much by a
+/// lower edge.
 fn offer<B: Bounds, Q: Queue>(
     labels: &mut Labels,
     queue: &mut Q,

@@ -29,11 +29,13 @@ struct Slot {
     settled: bool,
 }
 
-/// A label for each point that the last search reached, 24 bytes a point. Contracts see the list of the labels, by point.
+/// A label for each point that the last search reached, 24 bytes a point. Contracts see the list of
+/// the labels, by point.
 #[derive(Drop)]
 pub(crate) struct Labels {
     slots: Vec<Slot>,
-    // The number of the last search. Labels of other searches stay where they are, and count as none.
+    // The number of the last search. Labels of other searches stay where they are, and count as
+    // none.
     search: u32,
 }
 
@@ -70,8 +72,8 @@ impl Labels {
         Ok(Labels { slots, search: 1 })
     }
 
-    /// Begins the next search, in which no point was reached yet. Only where the searches' numbers are used up does it go
-    /// over the points.
+    /// Begins the next search, in which no point was reached yet. Only where the searches' numbers
+    /// are used up does it go over the points.
     pub(crate) fn begin(&mut self)
         ensures { self.new ≡ map (λ _. None) self.old }
     {

@@ -12,8 +12,11 @@ use ix_num::Memory;
 use std::alloc::Global;
 use std::marker::Model;
 
-/// Searches of least paths in graphs of one number of points. In contracts it is that number: what was searched before
-/// changes no answer.
+/// Searches of least paths in graphs of one number of points. In contracts it is that number: what
+/// was searched before changes no answer.
+///
+/// It keeps 24 bytes a point, and what the queue took at its longest: 16 bytes an entry, or 24 where
+/// bounds are given.
 #[derive(Drop)]
 pub struct Search {
     labels: Labels,
@@ -52,12 +55,14 @@ impl Search {
 
     /// The least path from the sources to the target, or `None` exactly where no walk leads there.
     ///
-    /// A walk's cost is the sum of what the points cost that it enters. The path is traced back from the target: each point
-    /// is entered by the edge of the least number that ends a walk of least cost to it, until a source is reached. A target
-    /// that is a source has the path without edges.
+    /// A walk's cost is the sum of what the points cost that it enters. The path is traced back
+    /// from the target: each point is entered by the edge of the least number that ends a walk of
+    /// least cost to it, until a source is reached. A target that is a source has the path without
+    /// edges.
     ///
-    /// It takes time by the points that it reaches and the edges out of those that it settles, whatever the number of
-    /// points. Its room for labels is kept from one search to the next, and that of the queue as large as it was.
+    /// It takes time by the points that it reaches and the edges out of those that it settles,
+    /// whatever the number of points. Its room for labels is kept from one search to the next, and
+    /// that of the queue as large as it was.
     ///
     /// # Errors
     ///
@@ -98,8 +103,12 @@ impl Search {
         }
     }
 
-    /// As `find`, and the answer is the same, ties included. The bounds lead the search towards the target: the nearer they
-    /// come to the cost of the way that is left, the fewer points are settled.
+    /// As `find`, and the answer is the same, ties included. The bounds lead the search towards the
+    /// target: the nearer they come to the cost of the way that is left, the fewer points are
+    /// settled.
+    ///
+    /// They are consistent: 0 at the target, and along an edge to a point that may be entered a
+    /// bound falls by at most what that point costs.
     ///
     /// # Errors
     ///

@@ -5,8 +5,8 @@ ghost use Rattle.ix_least_cases.specs.Grid.{grid_edges};
 
 use ix_least::Edges;
 
-/// A grid of points, row by row. Edges lead from each to the one on the right, on the left, below and above, and at an end
-/// of the grid to its last or first point.
+/// A grid of points, row by row. Edges lead from each to the one on the right, on the left, below
+/// and above, and at an end of the grid to its last or first point.
 #[derive(Clone, Copy)]
 pub(crate) struct Grid {
     width: u32,

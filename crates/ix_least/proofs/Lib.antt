@@ -1,0 +1,11 @@
+pub mod Queues
+pub mod Slots
+pub mod Marks
+pub mod Offers
+pub mod Leaves
+pub mod Steps
+pub mod Finals
+pub mod Starting
+pub mod Tracing
+pub mod Reaching
+pub mod Uniqueness

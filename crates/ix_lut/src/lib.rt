@@ -1,0 +1,11 @@
+//! LUT elements: which bits of a shared table make each LUT of an element compute its own function.
+#![tactic(auto)]
+
+mod agreeing;
+mod function;
+mod shape;
+mod table;
+
+pub use function::function_at;
+pub use shape::{BelShape, ElementShape, Tie};
+pub use table::{Table, permute};

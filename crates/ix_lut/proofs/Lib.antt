@@ -4,3 +4,6 @@ pub mod Spreading
 pub mod Words
 pub mod Reading
 pub mod Pigeons
+pub mod Tying
+pub mod ForcedWords
+pub mod Filling

@@ -7,7 +7,7 @@ use Rattle.std.proofs.lemmas.Map.Steps.{length-le_from_distinct_below}
 use Rattle.std.proofs.lemmas.Map.Views.{Contains-from_any}
 use Rattle.ix_lut.specs.Tables.{AllDiffer}
 
-eqb-not : (a b : ℕ) → a ≢ b → eqb a b ≡ false
+pub eqb-not : (a b : ℕ) → a ≢ b → eqb a b ≡ false
 eqb-not a b h = false_when (eqb a b) (λ e. h (eqb-true a b e))
   where
     false_when : (t : Bool) → (t ≡ true → ⊥) → t ≡ false

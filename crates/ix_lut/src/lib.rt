@@ -2,10 +2,15 @@
 #![tactic(auto)]
 
 mod agreeing;
+mod assign;
+mod forcing;
 mod function;
+mod items;
 mod shape;
 mod table;
+mod uses;
 
 pub use function::function_at;
 pub use shape::{BelShape, ElementShape, Tie};
 pub use table::{Table, permute};
+pub use uses::LutUse;

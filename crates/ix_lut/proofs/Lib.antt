@@ -7,3 +7,4 @@ pub mod Pigeons
 pub mod Tying
 pub mod ForcedWords
 pub mod Filling
+pub mod Masking

@@ -8,3 +8,4 @@ pub mod Items
 pub mod Readings
 pub mod Forcing
 pub mod Fillings
+pub mod Masks

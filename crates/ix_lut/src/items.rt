@@ -7,15 +7,10 @@ ghost use Rattle.ix_lut.specs.Items.{same_net, same_item, count_on, item_at, num
 use crate::uses::{Item, Items, LutUse};
 use ix_num::NetRef;
 
-fn is_same_net(a: NetRef, b: NetRef) -> bool
-    ensures { result ≡ same_net a b }
+fn is_same_net(a: &NetRef, b: &NetRef) -> bool
+    ensures { result ≡ same_net a.now b.now }
 {
-    match (a, b) {
-        (NetRef::Gnd, NetRef::Gnd) => true,
-        (NetRef::Vcc, NetRef::Vcc) => true,
-        (NetRef::Signal(first), NetRef::Signal(second)) => first.get() == second.get(),
-        _ => false,
-    }
+    a == b
 }
 
 /// The item of a cell's input.
@@ -24,29 +19,31 @@ pub(crate) fn item_of(nets: &[NetRef; 6], input: usize) -> Item
     ensures item { result ≡ item_at nets.now input }
     ensures few { result.nth ≤ input }
 {
-    let net = nets[input];
     let mut nth = 0;
     for i in 0..input {
-        if is_same_net(net, nets[i]) {
+        if is_same_net(&nets[input], &nets[i]) {
             nth += 1;
         }
     }
-    Item { net, nth }
+    Item {
+        net: nets[input],
+        nth,
+    }
 }
 
-fn is_same_item(a: Item, b: Item) -> bool
-    ensures { result ≡ same_item a b }
+fn is_same_item(a: &Item, b: &Item) -> bool
+    ensures { result ≡ same_item a.now b.now }
 {
-    is_same_net(a.net, b.net) && a.nth == b.nth
+    is_same_net(&a.net, &b.net) && a.nth == b.nth
 }
 
 /// The item's place in the list, or the list's length where it isn't there.
-pub(crate) fn number_of(items: &[Item], item: Item) -> usize
-    ensures number { result ≡ number_in items.now item }
+pub(crate) fn number_of(items: &[Item], item: &Item) -> usize
+    ensures number { result ≡ number_in items.now item.now }
     ensures within { result ≤ length items.now }
 {
     for (i, other) in items.iter().enumerate() {
-        if is_same_item(*other, item) {
+        if is_same_item(other, item) {
             return i;
         }
     }
@@ -63,7 +60,8 @@ fn add_item(items: &mut Items, item: Item)
     ensures kept { items.old.count ≤ items.new.count }
 {
     let count = items.count;
-    if number_of(&items.items[..count], item) == count {
+    let number = number_of(&items.items[..count], &item);
+    if number == count {
         items.items[count] = item;
         items.count = count + 1;
     }

@@ -6,6 +6,7 @@ mod assign;
 mod forcing;
 mod function;
 mod items;
+mod masks;
 mod shape;
 mod table;
 mod uses;

@@ -1,10 +1,10 @@
 -- Bits of words.
-use Rattle.std.proofs.Common.{◌≡◌, ◌≢◌, ℕ, zero, suc, ◌+◌, ◌-◌, ◌*◌, ◌/◌, ◌%◌, ◌^◌, ◌<◌, ◌≤◌, ◌⊎◌, inl, inr, min, max, sym, ap, ◌∙◌, refl, subst, arith, bit_and, bit_or}
-use Rattle.std.specs.Int.{bit_at, Width}
+use Rattle.std.proofs.Common.{◌≡◌, ◌≢◌, ℕ, zero, suc, ◌+◌, ◌-◌, ◌*◌, ◌%◌, ◌^◌, ◌<◌, ◌≤◌, ◌⊎◌, inl, inr, sym, ◌∙◌, refl, subst, arith, bit_or}
+use Rattle.std.specs.Int.{bit_at}
 use Rattle.std.proofs.Common.{w64}
 use Rattle.std.proofs.Math.Nat.{mod-eq_of_lt}
 use Rattle.std.proofs.Math.Pow.{pow-lt, pow_mono}
-use Rattle.std.proofs.lemmas.Nat.Bits.{bit_at-lt, bit_at_or, bit_at-pow_same, bit_at-pow_other, bit_at-zero, bit_at_set_same, bit_at_set_other, bit_at_cat_low, bit_at_cat_high, bit_at_lowest}
+use Rattle.std.proofs.lemmas.Nat.Bits.{bit_at-lt, bit_at_or, bit_at-zero, bit_at_set_same, bit_at_set_other, bit_at_cat_low, bit_at_cat_high, bit_at_lowest}
 
 pub two_cases : (b : ℕ) → b < 2 → (b ≡ 0) ⊎ (b ≡ 1)
 two_cases zero h = inl refl

@@ -1,5 +1,5 @@
 -- The items of an element and the lines that they are assigned.
-use Rattle.std.specs.Prelude.{◌≡◌, ◌⊎◌, ℕ, zero, suc, ◌+◌, ◌<◌, Bool, true, false, ◌&&◌, ◌==◌, if◌then◌else◌, List, [], ◌∷◌, ◌++◌, length, take, count_by, Contains, slice_index, slice_index_or}
+use Rattle.std.specs.Prelude.{◌≡◌, ℕ, zero, suc, ◌+◌, ◌<◌, Bool, true, false, ◌&&◌, ◌==◌, if◌then◌else◌, List, [], ◌∷◌, ◌++◌, length, Contains, slice_index, slice_index_or}
 use Rattle.ix_num.specs.declared.resource.NetRef.{NetRef}
 use Rattle.ix_num.specs.declared.resource.NetRef.TheVariants.{Gnd, Vcc, Signal}
 use Rattle.ix_lut.specs.Tables.{AllDiffer}
@@ -61,7 +61,7 @@ with_items items nets (suc n) = with_item (with_items items nets n) (item_at net
 abbrev pub items_of : List LutUse → ℕ → List Item
 items_of uses zero = []
 items_of uses (suc n) = let cell = use_at uses n
-  in with_items (items_of uses n) cell.nets cell.table.inputs
+    in with_items (items_of uses n) cell.nets cell.table.inputs
 
 -- the items of an element: through its BELs in order, and each cell's inputs
 abbrev pub all_items : List LutUse → List Item
@@ -76,7 +76,7 @@ pub record IsAssignment (shape : ElementShape) (uses : List LutUse) (lines : Lis
   pub every : length lines ≡ length (all_items uses)
   pub own : AllDiffer lines
   pub reached : (u : UseNumber) (i : ℕ) → u < length uses → i < (use_at uses u).table.inputs →
-    Contains (input_lines (bel_at shape (use_at uses u).bel)) (line_of_input uses lines (use_at uses u) i)
+      Contains (input_lines (bel_at shape (use_at uses u).bel)) (line_of_input uses lines (use_at uses u) i)
 
 -- the least assignment: an assignment, and every list before it is none
 pub record IsLeastAssignment (shape : ElementShape) (uses : List LutUse) (lines : List LineNumber) : Type 0 where

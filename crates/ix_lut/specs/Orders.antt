@@ -1,5 +1,5 @@
 -- The order of lists of lines.
-use Rattle.std.specs.Prelude.{◌≡◌, ◌<◌, ◌⊎◌, List, [], ◌∷◌}
+use Rattle.std.specs.Prelude.{◌≡◌, ◌<◌, ◌⊎◌, List, ◌∷◌}
 use Rattle.ix_lut.specs.Places.{LineNumber}
 
 -- the first list comes before the other, compared item by item

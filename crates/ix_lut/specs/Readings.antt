@@ -1,7 +1,7 @@
 -- What a LUT reads for each value of its own inputs.
 use Rattle.std.specs.Prelude.{◌≡◌, ℕ, ◌+◌, ◌^◌, ◌<◌, length}
 use Rattle.std.specs.Int.{bit_at}
-use Rattle.ix_lut.specs.Tables.{InputValues, TableBits, spelled}
+use Rattle.ix_lut.specs.Tables.{InputValues, spelled}
 use Rattle.ix_lut.specs.Places.{LutPlace, Held, ElementBits, Agrees}
 
 -- at some values below `upto` that agree with the constants the LUT reads `bit`, its own inputs

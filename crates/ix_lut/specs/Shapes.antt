@@ -1,5 +1,5 @@
 -- The shape of a LUT element.
-use Rattle.std.specs.Prelude.{◌≡◌, ℕ, ◌+◌, ◌^◌, ◌<◌, ◌≤◌, List, [], take, slice_index, slice_index_or}
+use Rattle.std.specs.Prelude.{ℕ, ◌+◌, ◌^◌, ◌<◌, ◌≤◌, List, [], take, slice_index, slice_index_or}
 use Rattle.ix_lut.specs.Tables.{InputPlace, AllDiffer}
 use Rattle.ix_lut.specs.Places.{LineNumber, LutPlace, Held}
 use Rattle.ix_lut.specs.declared.shape.BelShape.{BelShape}

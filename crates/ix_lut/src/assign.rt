@@ -19,7 +19,13 @@ fn may_take(mask: u32, used: u32, line: u32) -> bool
 /// Gives lines to the items from `item` on, the least first, beside those of the set `used`;
 /// `failed` keeps for each set of used lines one more than the item that was tried in vain there, so
 /// that no set is tried twice. It goes no deeper than there are lines.
-fn fill(masks: &[u32], item: usize, used: u32, lines: &mut [u32; 48], failed: &mut [u8; 4096]) -> bool
+fn fill(
+    masks: &[u32],
+    item: usize,
+    used: u32,
+    lines: &mut [u32; 48],
+    failed: &mut [u8; 4096],
+) -> bool
     requires few { length masks.now ≤ 48 }
     requires small { (i : ℕ) → i < length masks.now → slice_index masks.now i < 4096 }
     requires item { item ≤ length masks.now }
@@ -27,10 +33,8 @@ fn fill(masks: &[u32], item: usize, used: u32, lines: &mut [u32; 48], failed: &m
     requires knows { KnowsFailed masks.now failed.old }
     ensures knows { KnowsFailed masks.now failed.new }
     ensures kept { take item lines.new ≡ take item lines.old }
-    ensures found {
-        result ≡ true →
-            IsLeastFilling (drop item masks.now) used (drop item (take (length masks.now) lines.new))
-    }
+    ensures found { result ≡ true →
+        IsLeastFilling (drop item masks.now) used (drop item (take (length masks.now) lines.new)) }
     ensures none { result ≡ false → (rest : List ℕ) → Fills (drop item masks.now) used rest → ⊥ }
 {
     if item == masks.len() {

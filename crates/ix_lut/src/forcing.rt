@@ -88,10 +88,8 @@ fn set_least_tie(luts: &[Lut], tieable: &[bool; 12], held: &mut [Tie; 12], line:
     requires tieable { slice_index_or tieable.now line false ≡ true }
     ensures kept { (l : ℕ) → l ≢ line → held_by held.new l ≡ held_by held.old l }
     ensures can { CanComplete luts.now tieable.now (held_by held.new) (line + 1) }
-    ensures least {
-        (other : Held) → Completes tieable.now (held_by held.old) line other →
-            AreApart luts.now other → rank (other line) < rank (held_by held.new line) → ⊥
-    }
+    ensures least { (other : Held) → Completes tieable.now (held_by held.old) line other →
+        AreApart luts.now other → rank (other line) < rank (held_by held.new line) → ⊥ }
 {
     held[line] = Tie::Free;
     if can_complete(luts, tieable, *held, line + 1) {

@@ -53,9 +53,7 @@ pub(crate) fn number_of(items: &[Item], item: &Item) -> usize
 /// Adds an item where it isn't there yet.
 fn add_item(items: &mut Items, item: Item)
     requires { items.old.count < 48 }
-    ensures items {
-        take items.new.count items.new.items ≡ with_item (take items.old.count items.old.items) item
-    }
+    ensures items { take items.new.count items.new.items ≡ with_item (take items.old.count items.old.items) item }
     ensures count { items.new.count ≤ items.old.count + 1 }
     ensures kept { items.old.count ≤ items.new.count }
 {
@@ -71,10 +69,8 @@ fn add_item(items: &mut Items, item: Item)
 fn add_cell(items: &mut Items, cell: &LutUse)
     requires few { cell.now.table.inputs ≤ 6 }
     requires room { items.old.count + 6 ≤ 48 }
-    ensures items {
-        take items.new.count items.new.items
-            ≡ with_items (take items.old.count items.old.items) cell.now.nets cell.now.table.inputs
-    }
+    ensures items { take items.new.count items.new.items
+        ≡ with_items (take items.old.count items.old.items) cell.now.nets cell.now.table.inputs }
     ensures count { items.new.count ≤ items.old.count + 6 }
 {
     for input in 0..cell.table.inputs as usize {

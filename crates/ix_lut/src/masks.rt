@@ -26,9 +26,7 @@ fn bel_mask(bel: &BelShape) -> u32
 /// Takes from the sets of a cell's items the lines that aren't in `mask`.
 fn narrow(masks: &mut [u32; 48], items: &[Item], cell: &LutUse, mask: u32)
     requires { cell.now.table.inputs ≤ 6 }
-    ensures {
-        Narrows items.now cell.now.nets cell.now.table.inputs mask masks.old masks.new
-    }
+    ensures { Narrows items.now cell.now.nets cell.now.table.inputs mask masks.old masks.new }
 {
     for input in 0..cell.table.inputs as usize {
         let item = item_of(&cell.nets, input);

@@ -1,11 +1,9 @@
-use Rattle.std.proofs.Common.{◌≡◌, ℕ, ◌-◌, ◌+◌, ◌<◌, ◌≤◌, ◌^◌, ◌*◌, ◌/◌, ◌%◌, get_or, length, take, Contains, true, false, slice_index, slice_index_or, sym, subst, ap, ◌∙◌, arith, bit_and, rules, refl}
+use Rattle.std.proofs.Common.{◌≡◌, ℕ, ◌-◌, ◌≤◌, ◌^◌, length, Contains, true, subst, ap, ◌∙◌, arith}
 use Rattle.std.proofs.Math.Pow.{pow_mono}
 use Rattle.std.proofs.lemmas.Nat.Bits.{ones_shr}
 use Rattle.ix_lut.specs.Shapes.{held_by}
-use Rattle.ix_lut.specs.declared.shape.Tie.{Tie}
-use Rattle.ix_lut.specs.declared.shape.Tie.TheVariants.{Free, Vcc, Gnd}
 use Rattle.ix_lut.proofs.Bits.{values_fit}
-use Rattle.ix_lut.proofs.Words.{IsWordBelow, AllowsIn, agrees_first, agrees_only, agrees_every, agrees_used, agrees_unused}
+use Rattle.ix_lut.proofs.Words.{IsWordBelow, agrees_first, agrees_only, agrees_every, agrees_used, agrees_unused}
 use Rattle.ix_lut.proofs.agreeing.agreeing.Goals as goal
 use Rattle.ix_lut.proofs.agreeing.agreeing.Goals.{then-not-is_among, else-not-is_among}
 

@@ -1,4 +1,4 @@
-use Rattle.std.proofs.Common.{◌≡◌, ℕ, ◌-◌, ◌<◌, get_or, sym, subst}
+use Rattle.std.proofs.Common.{◌-◌, get_or, sym, subst}
 use Rattle.ix_lut.proofs.Words.{AllowsIn, allows_free, allows_vcc, allows_gnd, one_words}
 use Rattle.ix_lut.specs.declared.shape.Tie.{Tie}
 use Rattle.ix_lut.proofs.agreeing.allowed.Goals as goal

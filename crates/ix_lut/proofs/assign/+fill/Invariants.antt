@@ -12,5 +12,5 @@ invariant-loop-line l = record {
   knows : KnowsFailed l.masks l.failed;
   kept : take l.item l.lines ≡ take l.item l.fn.lines;
   none : (line : ℕ) → line < l.line → bit_at (slice_index l.masks l.item) line ≡ 1 → bit_at l.used line ≡ 0 →
-    (rest : List ℕ) → Fills (drop (l.item + 1) l.masks) (with_line l.used line) rest → ⊥;
+      (rest : List ℕ) → Fills (drop (l.item + 1) l.masks) (with_line l.used line) rest → ⊥;
 }

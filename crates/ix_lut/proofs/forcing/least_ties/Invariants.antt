@@ -1,4 +1,3 @@
-use Rattle.std.proofs.Common.{◌≡◌, length}
 use Rattle.ix_lut.specs.Shapes.{held_by}
 use Rattle.ix_lut.proofs.Tying.{TiesBelow}
 use Rattle.ix_lut.proofs.forcing.least_ties.Given as goal

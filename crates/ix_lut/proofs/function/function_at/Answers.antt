@@ -1,9 +1,7 @@
-use Rattle.std.proofs.Common.{◌≡◌, ℕ, ◌+◌, ◌<◌, ◌≤◌, ◌^◌, length, take, sym, ap, ◌∙◌, subst, arith, bit_and, rules}
-use Rattle.std.proofs.lemmas.List.{length-take}
+use Rattle.std.proofs.Common.{◌<◌, ◌≤◌, ◌^◌, length, arith, bit_and, rules}
 use Rattle.std.proofs.lemmas.Nat.{and_le_l}
 use Rattle.std.proofs.Math.Pow.{pow_mono}
 use Rattle.ix_lut.specs.Shapes.{bel_at, held_by, lut_on}
-use Rattle.ix_lut.specs.Readings.{HasRead}
 use Rattle.ix_lut.proofs.Pigeons.{length_of_different}
 use Rattle.ix_lut.proofs.Reading.{read_gives, read_none_given}
 use Rattle.ix_lut.proofs.function.function_at.Goals as goal

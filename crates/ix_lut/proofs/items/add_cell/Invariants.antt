@@ -5,6 +5,6 @@ use Rattle.ix_lut.proofs.items.add_cell.Given as goal
 abbrev pub invariant-loop-input : goal.invariant-loop-input
 invariant-loop-input l = record {
   items : take l.items.count l.items.items
-    ≡ with_items (take l.fn.items.count l.fn.items.items) l.cell.nets l.input;
+      ≡ with_items (take l.fn.items.count l.fn.items.items) l.cell.nets l.input;
   count : l.items.count ≤ l.fn.items.count + l.input;
 }

@@ -1,4 +1,4 @@
-use Rattle.std.proofs.Common.{◌≡◌, ◌<◌, take, arith, sym, ap, ◌∙◌, subst, rules, ◌+◌, ◌*◌, ◌/◌, ◌%◌, ◌^◌, slice_index, bit_and}
+use Rattle.std.proofs.Common.{◌<◌, take, arith, ap, ◌∙◌, rules, ◌+◌, ◌*◌, ◌/◌, ◌%◌, ◌^◌, slice_index, bit_and}
 use Rattle.std.proofs.lemmas.List.{take_all, length-take}
 use Rattle.ix_lut.specs.Tables.{spelled}
 use Rattle.ix_lut.proofs.Spelling.{spelled_next, spelled_small, spelled_below_64}

@@ -1,9 +1,8 @@
-use Rattle.std.proofs.Common.{◌≡◌, ◌<◌, ◌≤◌, ◌+◌, ◌*◌, ◌/◌, ◌%◌, ◌^◌, length, bit_and, arith, ◌∙◌, sym, ap, rules, subst}
+use Rattle.std.proofs.Common.{◌≡◌, ◌<◌, ◌^◌, arith, sym, ap, rules, subst}
 use Rattle.std.specs.Int.{bit_at}
 use Rattle.std.proofs.Math.Pow.{pow_mono}
 use Rattle.ix_lut.specs.Tables.{spelled}
 use Rattle.ix_lut.proofs.Bits.{values_fit}
-use Rattle.ix_lut.proofs.Spelling.{spelled_below_64}
 use Rattle.ix_lut.proofs.Spreading.{HasBits, has_bits_next, has_bits_fits}
 use Rattle.ix_lut.proofs.table.spread.Goals as goal
 

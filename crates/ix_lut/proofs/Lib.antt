@@ -8,3 +8,5 @@ pub mod Tying
 pub mod ForcedWords
 pub mod Filling
 pub mod Masking
+pub mod Laying
+pub mod CellsLaid

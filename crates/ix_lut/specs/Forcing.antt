@@ -4,20 +4,8 @@ use Rattle.std.specs.Int.{bit_at}
 use Rattle.ix_lut.specs.Tables.{TableBits, IsTable, spelled, InputValues}
 use Rattle.ix_lut.specs.Places.{LineNumber, LutPlace, Held, Forces}
 use Rattle.ix_lut.specs.Shapes.{lut_on, IsUsableBel, input_lines}
-use Rattle.ix_lut.specs.declared.shape.Tie.{Tie}
-use Rattle.ix_lut.specs.declared.shape.Tie.TheVariants.{Free, Vcc, Gnd}
+pub use Rattle.ix_lut.specs.Ties.{IsForced, NoneBothWays, rank, AreBefore}
 use Rattle.ix_lut.specs.declared.forcing.Lut.{Lut}
-
--- one of the first `count` LUTs forces the bit `at` to `bit`
-pub record IsForced (count : ℕ) (luts : ℕ → LutPlace) (tables : ℕ → TableBits) (held : Held) (at bit : ℕ) : Type 0 where
-  pub u : ℕ
-  pub within : u < count
-  pub forces : Forces (luts u) (tables u) held at bit
-
--- no bit is forced both ways
-abbrev pub NoneBothWays : ℕ → (ℕ → LutPlace) → (ℕ → TableBits) → Held → Type 0
-NoneBothWays count luts tables held = (at : ℕ) → IsForced count luts tables held at 0 →
-    IsForced count luts tables held at 1 → ⊥
 
 -- what only private contracts cite: LUTs as the code keeps them
 abbrev pub lut_at : List Lut → ℕ → Lut
@@ -64,18 +52,6 @@ pub record CanComplete (luts : List Lut) (tieable : List Bool) (held : Held) (fr
   pub other : Held
   pub completes : Completes tieable held from other
   pub apart : AreApart luts other
-
--- the order of ties: free, vcc, gnd
-abbrev pub rank : Tie → ℕ
-rank Free = 0
-rank Vcc = 1
-rank Gnd = 2
-
--- the first comes before the other, compared line by line
-pub record AreBefore (ties others : Held) : Type 0 where
-  pub line : LineNumber
-  pub same : (l : LineNumber) → l < line → ties l ≡ others l
-  pub less : rank (ties line) < rank (others line)
 
 -- among those that leave no bit forced both ways, the least
 pub record IsLeastHeld (luts : List Lut) (tieable : List Bool) (base held : Held) : Type 0 where

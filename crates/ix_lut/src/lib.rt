@@ -3,15 +3,19 @@
 
 mod agreeing;
 mod assign;
+mod cells;
 mod forcing;
 mod function;
 mod items;
+mod lay;
 mod masks;
+mod plan;
 mod shape;
 mod table;
 mod uses;
 
 pub use function::function_at;
+pub use plan::ElementPlan;
 pub use shape::{BelShape, ElementShape, Tie};
 pub use table::{Table, permute};
 pub use uses::LutUse;

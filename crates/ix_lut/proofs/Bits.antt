@@ -1,10 +1,11 @@
 -- Bits of words.
-use Rattle.std.proofs.Common.{◌≡◌, ◌≢◌, ℕ, zero, suc, ◌+◌, ◌-◌, ◌*◌, ◌%◌, ◌^◌, ◌<◌, ◌≤◌, ◌⊎◌, inl, inr, sym, ◌∙◌, refl, subst, arith, bit_or}
+use Rattle.std.proofs.Common.{◌≡◌, ◌≢◌, ℕ, zero, suc, ◌+◌, ◌-◌, ◌*◌, ◌/◌, ◌%◌, ◌^◌, ◌<◌, ◌≤◌, ◌⊎◌, inl, inr, ap, sym, ◌∙◌, refl, subst, arith, bit_or}
+use Rattle.std.proofs.lemmas.Bool.{cases_lt}
 use Rattle.std.specs.Int.{bit_at}
 use Rattle.std.proofs.Common.{w64}
-use Rattle.std.proofs.Math.Nat.{mod-eq_of_lt}
+use Rattle.std.proofs.Math.Nat.{mod-eq_of_lt, mod-lt, one-le-pow, div-add-mod}
 use Rattle.std.proofs.Math.Pow.{pow-lt, pow_mono}
-use Rattle.std.proofs.lemmas.Nat.Bits.{bit_at-lt, bit_at_or, bit_at-zero, bit_at_set_same, bit_at_set_other, bit_at_cat_low, bit_at_cat_high, bit_at_lowest}
+use Rattle.std.proofs.lemmas.Nat.Bits.{bit_at-lt, bit_at_or, bit_at-zero, bit_at_set_same, bit_at_set_other, bit_at_cat_low, bit_at_cat_high, bit_at_lowest, same_from_bits, bit_at_above}
 
 pub two_cases : (b : ℕ) → b < 2 → (b ≡ 0) ⊎ (b ≡ 1)
 two_cases zero h = inl refl
@@ -61,3 +62,19 @@ values_fit inputs few =
     let le : 2 ^ inputs ≤ 2 ^ 6 = pow_mono few in
     let one : 1 * 2 ^ inputs ≡ 2 ^ inputs = omega arith in
     rw one (mod-eq_of_lt (omega arith))
+
+-- a number without bits from `k` on is below `2 ^ k`
+pub small_from_bits : (k n : ℕ) → ((l : ℕ) → bit_at n l ≡ 1 → l < k) → n < 2 ^ k
+small_from_bits k n within =
+  omega (arith, same_from_bits n (n % 2 ^ k) each, mod-lt n (one-le-pow k 2 (omega arith)))
+  where
+  split : n ≡ n / 2 ^ k * 2 ^ k + n % 2 ^ k
+  split = omega (arith, div-add-mod n (2 ^ k))
+  none : (i : ℕ) → (bit_at n i ≡ 0) ⊎ (bit_at n i ≡ 1) → k ≤ i → bit_at n i ≡ 0
+  none i (inl e) past = e
+  none i (inr e) past = absurd (omega (arith, within i e, past))
+  each : (i : ℕ) → bit_at n i ≡ bit_at (n % 2 ^ k) i
+  each i = elim (cases_lt i k) [
+    | inl below ↦ ap (λ m. bit_at m i) split ∙ bit_at_cat_low (n / 2 ^ k) k (n % 2 ^ k) i below
+    | inr past ↦ none i (bit_cases n i) past ∙ sym (bit_at_above (n % 2 ^ k) k i (mod-lt n (one-le-pow k 2 (omega arith))) past)
+  ]

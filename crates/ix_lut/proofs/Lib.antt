@@ -10,3 +10,7 @@ pub mod Filling
 pub mod Masking
 pub mod Laying
 pub mod CellsLaid
+pub mod Assigning
+pub mod Planning
+pub mod Showing
+pub mod PlanMade

@@ -12,7 +12,7 @@ use Rattle.ix_lut.specs.declared.shape.Tie.{Tie}
 use Rattle.ix_lut.specs.declared.shape.Tie.TheVariants.{Free, Vcc, Gnd}
 
 -- the second holds all that the first holds
-pub HoldsMore : Held → Held → Type 0
+unfoldable pub HoldsMore : Held → Held → Type 0
 HoldsMore held other = (line : ℕ) → (held line ≡ other line) ⊎ (held line ≡ Free)
 
 allows_less : (tie other : Tie) (b : ℕ) → (tie ≡ other) ⊎ (tie ≡ Free) → Allows other b → Allows tie b

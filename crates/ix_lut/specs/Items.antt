@@ -74,6 +74,7 @@ line_of_input uses lines cell i = slice_index lines (number_in (all_items uses) 
 -- each item has a line of its own, which is an input line of every cell with that item
 pub record IsAssignment (shape : ElementShape) (uses : List LutUse) (lines : List LineNumber) : Type 0 where
   pub every : length lines ≡ length (all_items uses)
+  pub on_lines : (x : ItemNumber) → x < length lines → slice_index lines x < shape.lines
   pub own : AllDiffer lines
   pub reached : (u : UseNumber) (i : ℕ) → u < length uses → i < (use_at uses u).table.inputs →
       Contains (input_lines (bel_at shape (use_at uses u).bel)) (line_of_input uses lines (use_at uses u) i)

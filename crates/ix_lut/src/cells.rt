@@ -2,13 +2,14 @@
 
 ghost use Rattle.std.specs.Prelude.{◌≡◌, ℕ, ◌+◌, ◌<◌, ◌≤◌, Contains};
 ghost use Rattle.std.specs.Prelude.{length, take, slice_index, slice_index_or};
-ghost use Rattle.ix_lut.specs.Shapes.{IsUsable, bel_at, input_lines};
+ghost use Rattle.std.specs.Prelude.{true, false};
+ghost use Rattle.ix_lut.specs.Shapes.{IsUsable, bel_at, input_lines, held_by};
 ghost use Rattle.ix_lut.specs.Items.{use_at, item_at, number_in};
 ghost use Rattle.ix_lut.specs.Laid.{AreLaid};
 
 use crate::forcing::Lut;
 use crate::lay::{lines_of, ready_lut};
-use crate::shape::{BelShape, ElementShape};
+use crate::shape::{BelShape, ElementShape, Tie};
 use crate::uses::{Item, LutUse};
 
 /// The line of each cell's inputs, and the cells on their BELs.
@@ -52,9 +53,10 @@ pub(crate) fn lay_cells(
             Contains (input_lines (bel_at shape.now (use_at uses.now u).bel))
                 (slice_index lines.now (number_in items.now (item_at (use_at uses.now u).nets i)))
     }
-    ensures {
+    ensures laid {
         AreLaid shape.now uses.now items.now lines.now (length uses.now) result.choice result.luts
     }
+    ensures long { length result.luts ≡ 8 }
 {
     let mut choice = [[0; 6]; 8];
     let mut luts = [NO_LUT; 8];
@@ -65,4 +67,22 @@ pub(crate) fn lay_cells(
         luts[u] = ready_lut(&shape.bels[cell.bel as usize], cell, &chosen);
     }
     LaidCells { choice, luts }
+}
+
+/// The ties of lines that may be tied; the others are free.
+pub(crate) fn shown_ties(tieable: &[bool; 12], held: &[Tie; 12]) -> [Tie; 12]
+    ensures shown {
+        (line : ℕ) → slice_index_or tieable.now line false ≡ true → held_by result line ≡ held_by held.now line
+    }
+    ensures hidden {
+        (line : ℕ) → slice_index_or tieable.now line false ≡ false → held_by result line ≡ Tie.Free
+    }
+{
+    let mut ties = [Tie::Free; 12];
+    for line in 0..12 {
+        if tieable[line] {
+            ties[line] = held[line];
+        }
+    }
+    ties
 }

@@ -15,7 +15,7 @@ mod table;
 mod uses;
 
 pub use function::function_at;
-pub use plan::ElementPlan;
+pub use plan::{ElementPlan, element};
 pub use shape::{BelShape, ElementShape, Tie};
 pub use table::{Table, permute};
 pub use uses::LutUse;

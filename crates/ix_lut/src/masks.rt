@@ -42,7 +42,8 @@ pub(crate) fn masks_of(shape: &ElementShape, uses: &[LutUse], items: &[Item]) ->
     requires shape { IsUsable shape.now }
     requires on_bels { (u : ℕ) → u < length uses.now → (use_at uses.now u).bel < shape.now.bel_count }
     requires few { (u : ℕ) → u < length uses.now → (use_at uses.now u).table.inputs ≤ 6 }
-    ensures { AreMasks shape.now uses.now items.now (length uses.now) result }
+    ensures are { AreMasks shape.now uses.now items.now (length uses.now) result }
+    ensures long { length result ≡ 48 }
 {
     let mut masks = [(1 << shape.lines) - 1; 48];
     for u in 0..uses.len() {

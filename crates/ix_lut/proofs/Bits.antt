@@ -66,15 +66,17 @@ values_fit inputs few =
 -- a number without bits from `k` on is below `2 ^ k`
 pub small_from_bits : (k n : ℕ) → ((l : ℕ) → bit_at n l ≡ 1 → l < k) → n < 2 ^ k
 small_from_bits k n within =
-  omega (arith, same_from_bits n (n % 2 ^ k) each, mod-lt n (one-le-pow k 2 (omega arith)))
+    omega (arith, same_from_bits n (n % 2 ^ k) each, mod-lt n (one-le-pow k 2 (omega arith)))
   where
-  split : n ≡ n / 2 ^ k * 2 ^ k + n % 2 ^ k
-  split = omega (arith, div-add-mod n (2 ^ k))
-  none : (i : ℕ) → (bit_at n i ≡ 0) ⊎ (bit_at n i ≡ 1) → k ≤ i → bit_at n i ≡ 0
-  none i (inl e) past = e
-  none i (inr e) past = absurd (omega (arith, within i e, past))
-  each : (i : ℕ) → bit_at n i ≡ bit_at (n % 2 ^ k) i
-  each i = elim (cases_lt i k) [
-    | inl below ↦ ap (λ m. bit_at m i) split ∙ bit_at_cat_low (n / 2 ^ k) k (n % 2 ^ k) i below
-    | inr past ↦ none i (bit_cases n i) past ∙ sym (bit_at_above (n % 2 ^ k) k i (mod-lt n (one-le-pow k 2 (omega arith))) past)
-  ]
+    split : n ≡ n / 2 ^ k * 2 ^ k + n % 2 ^ k
+    split = omega (arith, div-add-mod n (2 ^ k))
+
+    none : (i : ℕ) → (bit_at n i ≡ 0) ⊎ (bit_at n i ≡ 1) → k ≤ i → bit_at n i ≡ 0
+    none i (inl e) past = e
+    none i (inr e) past = absurd (omega (arith, within i e, past))
+
+    each : (i : ℕ) → bit_at n i ≡ bit_at (n % 2 ^ k) i
+    each i = elim (cases_lt i k) [
+      | inl below ↦ ap (λ m. bit_at m i) split ∙ bit_at_cat_low (n / 2 ^ k) k (n % 2 ^ k) i below
+      | inr past ↦ none i (bit_cases n i) past ∙ sym (bit_at_above (n % 2 ^ k) k i (mod-lt n (one-le-pow k 2 (omega arith))) past)
+    ]

@@ -1,5 +1,5 @@
 -- The ties that a plan shows.
-use Rattle.std.proofs.Common.{◌≡◌, ◌≢◌, ℕ, ◌+◌, ◌<◌, ◌≤◌, Bool, true, false, inl, inr, List, length, set, replicate, slice_index_or, sym, ap, ◌∙◌, refl, subst, arith}
+use Rattle.std.proofs.Common.{◌≡◌, ◌≢◌, ℕ, ◌+◌, ◌<◌, Bool, true, false, inl, inr, List, length, set, slice_index_or, sym, ap, ◌∙◌, arith}
 use Rattle.std.proofs.lemmas.Bool.{cases_eq, cases_lt}
 use Rattle.std.proofs.lemmas.List.{length-set, get_or_past}
 use Rattle.ix_lut.specs.Shapes.{held_by}
@@ -24,10 +24,11 @@ module _ (tieable : List Bool) (held : List Tie) (n : ℕ) (ties : List Tie) (sh
     hidden = λ line shut. held_set_other ties n (held_by held n) line (apart line shut) ∙ shows.hidden line shut;
   }
     where
-    before : (line : ℕ) → line < n + 1 → line ≢ n → line < n
-    before line h other = elim (cases_lt line n) [ inl is ↦ is | inr over ↦ absurd (other (omega (arith, h, over))) ]
-    apart : (line : ℕ) → slice_index_or tieable line false ≡ false → line ≢ n
-    apart line shut same = let e = ap (λ l. slice_index_or tieable l false) same in absurd (cc)
+      before : (line : ℕ) → line < n + 1 → line ≢ n → line < n
+      before line h other = elim (cases_lt line n) [ inl is ↦ is | inr over ↦ absurd (other (omega (arith, h, over))) ]
+
+      apart : (line : ℕ) → slice_index_or tieable line false ≡ false → line ≢ n
+      apart line shut same = let e = ap (λ l. slice_index_or tieable l false) same in absurd (cc)
 
   pub shows_none : slice_index_or tieable n false ≡ false → Shows tieable held (n + 1) ties
   shows_none shut = record {
@@ -35,14 +36,14 @@ module _ (tieable : List Bool) (held : List Tie) (n : ℕ) (ties : List Tie) (sh
     shown = λ line h may. elim (cases_lt line n) [
       | inl is ↦ shows.shown line is may
       | inr over ↦
-        let same : line ≡ n = omega (arith, h, over) in
-        let e = ap (λ l. slice_index_or tieable l false) same in absurd (cc)
+          let same : line ≡ n = omega (arith, h, over) in
+          let e = ap (λ l. slice_index_or tieable l false) same in absurd (cc)
     ];
     hidden = shows.hidden;
   }
 
 pub shows_all : (tieable : List Bool) (held ties : List Tie) → length tieable ≡ 12 → Shows tieable held 12 ties →
-  (line : ℕ) → slice_index_or tieable line false ≡ true → held_by ties line ≡ held_by held line
+    (line : ℕ) → slice_index_or tieable line false ≡ true → held_by ties line ≡ held_by held line
 shows_all tieable held ties long shows line may = elim (cases_lt line 12) [
   | inl inside ↦ shows.shown line inside may
   | inr past ↦ (let shut = get_or_past tieable line false (omega (arith, past, long)) in absurd (cc))

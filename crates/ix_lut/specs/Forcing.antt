@@ -1,8 +1,8 @@
 -- The bits that several LUTs of an element force.
 use Rattle.std.specs.Prelude.{◌≡◌, ℕ, ◌<◌, ◌≤◌, ◌^◌, Bool, false, List, [], length, take, slice_index_or}
 use Rattle.std.specs.Int.{bit_at}
-use Rattle.ix_lut.specs.Tables.{TableBits, IsTable, spelled, InputValues}
-use Rattle.ix_lut.specs.Places.{LineNumber, LutPlace, Held, Forces}
+use Rattle.ix_lut.specs.Tables.{IsTable, spelled, InputValues}
+use Rattle.ix_lut.specs.Places.{LineNumber, LutPlace, Held}
 use Rattle.ix_lut.specs.Shapes.{lut_on, IsUsableBel, input_lines}
 pub use Rattle.ix_lut.specs.Ties.{IsForced, NoneBothWays, rank, AreBefore}
 use Rattle.ix_lut.specs.declared.forcing.Lut.{Lut}

@@ -1,9 +1,8 @@
 -- Plans of LUT elements.
-use Rattle.std.specs.Prelude.{◌≡◌, ◌≢◌, ◌⊎◌, ℕ, zero, suc, ◌+◌, ◌<◌, ◌≤◌, List, [], ◌∷◌, ◌++◌, length, take, Contains, slice_index, slice_index_or, ◌==◌, if◌then◌else◌}
+use Rattle.std.specs.Prelude.{◌≡◌, ◌≢◌, ◌⊎◌, ℕ, zero, suc, ◌<◌, ◌≤◌, List, [], ◌∷◌, ◌++◌, length, Contains, slice_index, slice_index_or, ◌==◌, if◌then◌else◌}
 use Rattle.std.specs.Int.{bit_at}
-use Rattle.ix_num.specs.declared.resource.NetRef.{NetRef}
 use Rattle.ix_lut.specs.Tables.{TableBits, InputPlace, IsTable}
-use Rattle.ix_lut.specs.Places.{LineNumber, LutPlace, Held, ElementBits, GivesFunction}
+use Rattle.ix_lut.specs.Places.{LineNumber, LutPlace, Held, GivesFunction}
 use Rattle.ix_lut.specs.Shapes.{input_lines, bel_at, lut_on, held_by}
 use Rattle.ix_lut.specs.Items.{UseNumber, use_at, all_items, line_of_input, IsAssignment, IsLeastAssignment}
 use Rattle.ix_lut.specs.Ties.{IsForced, NoneBothWays, AreBefore, constant_of}
@@ -21,7 +20,7 @@ pub record AreUses (shape : ElementShape) (uses : List LutUse) : Type 0 where
   pub some : (u : UseNumber) → u < length uses → 1 ≤ (use_at uses u).table.inputs
   pub few : (u : UseNumber) → u < length uses → (use_at uses u).table.inputs ≤ 6
   pub tables : (u : UseNumber) → u < length uses →
-    IsTable (use_at uses u).table.inputs (use_at uses u).table.bits
+      IsTable (use_at uses u).table.inputs (use_at uses u).table.bits
 
 -- the place of a line among a BEL's, or their number where it isn't there
 abbrev pub place_in : List LineNumber → LineNumber → InputPlace
@@ -32,20 +31,20 @@ place_in (first ∷ lines) line = if first == line then 0 else suc (place_in lin
 abbrev pub places_of : List LutUse → List LineNumber → List LineNumber → LutUse → ℕ → List InputPlace
 places_of uses lines bel_lines cell zero = []
 places_of uses lines bel_lines cell (suc n) =
-  places_of uses lines bel_lines cell n ++ place_in bel_lines (line_of_input uses lines cell n) ∷ []
+    places_of uses lines bel_lines cell n ++ place_in bel_lines (line_of_input uses lines cell n) ∷ []
 
 -- the same, by the lines of the cell's inputs
 abbrev pub places_on : List LineNumber → List LineNumber → ℕ → List InputPlace
 places_on bel_lines chosen zero = []
 places_on bel_lines chosen (suc n) =
-  places_on bel_lines chosen n ++ place_in bel_lines (slice_index chosen n) ∷ []
+    places_on bel_lines chosen n ++ place_in bel_lines (slice_index chosen n) ∷ []
 
 -- a cell of an element as an assignment places it
 abbrev pub lut_of : ElementShape → List LutUse → List LineNumber → UseNumber → LutPlace
 lut_of shape uses lines u =
-  let cell = use_at uses u in
-  let bel = bel_at shape cell.bel in
-  lut_on bel (places_of uses lines (input_lines bel) cell cell.table.inputs)
+    let cell = use_at uses u in
+    let bel = bel_at shape cell.bel in
+    lut_on bel (places_of uses lines (input_lines bel) cell cell.table.inputs)
 
 abbrev pub table_of : List LutUse → UseNumber → TableBits
 table_of uses u = (use_at uses u).table.bits
@@ -53,7 +52,7 @@ table_of uses u = (use_at uses u).table.bits
 -- what holds a line: the constant of the net of its item, or its tie where it has no item
 abbrev pub constant_on : List Item → List LineNumber → Tie → LineNumber → Tie
 constant_on (item ∷ items) (first ∷ lines) tie line =
-  if first == line then constant_of item.net else constant_on items lines tie line
+    if first == line then constant_of item.net else constant_on items lines tie line
 constant_on _ _ tie line = tie
 
 abbrev pub held_under : List LutUse → List LineNumber → Held → Held
@@ -76,13 +75,13 @@ pub record IsPlan (shape : ElementShape) (uses : List LutUse) (plan : ElementPla
   pub lines : List LineNumber
   pub assignment : IsLeastAssignment shape uses lines
   pub choice : (u : UseNumber) (i : ℕ) → u < length uses → i < (use_at uses u).table.inputs →
-    slice_index (slice_index_or plan.choice u []) i ≡ line_of_input uses lines (use_at uses u) i
+      slice_index (slice_index_or plan.choice u []) i ≡ line_of_input uses lines (use_at uses u) i
   pub ties : AreLeastTies shape uses lines (held_by plan.ties)
   pub only : (at : ℕ) → bit_at plan.bits at ≡ 1 →
-    IsForced (length uses) (lut_of shape uses lines) (table_of uses) (held_under uses lines (held_by plan.ties)) at 1
+      IsForced (length uses) (lut_of shape uses lines) (table_of uses) (held_under uses lines (held_by plan.ties)) at 1
   pub every : (at : ℕ) →
-    IsForced (length uses) (lut_of shape uses lines) (table_of uses) (held_under uses lines (held_by plan.ties)) at 1 →
-    bit_at plan.bits at ≡ 1
+      IsForced (length uses) (lut_of shape uses lines) (table_of uses) (held_under uses lines (held_by plan.ties)) at 1 →
+      bit_at plan.bits at ≡ 1
 
 -- there is no assignment, or no list of ties for the least one
 pub record HasNoTies (shape : ElementShape) (uses : List LutUse) : Type 0 where
@@ -97,6 +96,6 @@ HasNoPlan shape uses = ((lines : List LineNumber) → IsAssignment shape uses li
 -- plan's ties and under any constants besides on lines that these leave free
 abbrev pub GivesFunctions : ElementShape → List LutUse → ElementPlan → Type 0
 GivesFunctions shape uses plan = (is : IsPlan shape uses plan) (u : UseNumber) (held : Held) → u < length uses →
-  ((line : LineNumber) → held_under uses is.lines (held_by plan.ties) line ≢ Free →
+    ((line : LineNumber) → held_under uses is.lines (held_by plan.ties) line ≢ Free →
     held line ≡ held_under uses is.lines (held_by plan.ties) line) →
-  GivesFunction (lut_of shape uses is.lines u) held plan.bits (table_of uses u)
+    GivesFunction (lut_of shape uses is.lines u) held plan.bits (table_of uses u)

@@ -19,13 +19,9 @@ use ix_num::NetRef;
 /// The lines of a cell's inputs, where each item has a line.
 pub(crate) fn lines_of(items: &[Item], lines: &[u32; 48], cell: &LutUse) -> [u32; 6]
     requires few { cell.now.table.inputs ≤ 6 }
-    requires here {
-        (i : ℕ) → i < cell.now.table.inputs → number_in items.now (item_at cell.now.nets i) < 48
-    }
-    ensures {
-        (i : ℕ) → i < cell.now.table.inputs →
-            slice_index result i ≡ slice_index lines.now (number_in items.now (item_at cell.now.nets i))
-    }
+    requires here { (i : ℕ) → i < cell.now.table.inputs → number_in items.now (item_at cell.now.nets i) < 48 }
+    ensures { (i : ℕ) → i < cell.now.table.inputs →
+        slice_index result i ≡ slice_index lines.now (number_in items.now (item_at cell.now.nets i)) }
 {
     let mut chosen = [0; 6];
     for i in 0..cell.table.inputs as usize {
@@ -65,17 +61,13 @@ fn places_for(bel: &BelShape, chosen: &[u32; 6], inputs: u32) -> [u32; 6]
 pub(crate) fn ready_lut(bel: &BelShape, cell: &LutUse, chosen: &[u32; 6]) -> Lut
     requires bel { IsUsableBel 12 bel.now }
     requires few { cell.now.table.inputs ≤ 6 }
-    requires reached {
-        (i : ℕ) → i < cell.now.table.inputs →
-            Contains (input_lines bel.now) (slice_index chosen.now i)
-    }
+    requires reached { (i : ℕ) → i < cell.now.table.inputs →
+        Contains (input_lines bel.now) (slice_index chosen.now i) }
     ensures ready { IsReady result }
     ensures bel { result.bel ≡ bel.now }
     ensures table { result.table ≡ cell.now.table.bits }
-    ensures places {
-        take result.inputs result.places
-            ≡ places_on (input_lines bel.now) chosen.now cell.now.table.inputs
-    }
+    ensures places { take result.inputs result.places
+        ≡ places_on (input_lines bel.now) chosen.now cell.now.table.inputs }
 {
     let inputs = cell.table.inputs;
     let places = places_for(bel, chosen, inputs);
@@ -126,20 +118,14 @@ pub(crate) fn hold_lines(items: &[Item], lines: &[u32; 48], count: u32) -> Lines
     requires few { length items.now ≤ 48 }
     requires count { count ≤ 12 }
     requires inside { (x : ℕ) → x < length items.now → slice_index lines.now x < 12 }
-    ensures held {
-        (line : LineNumber) → held_by result.held line
-            ≡ constant_on items.now (take (length items.now) lines.now) Tie.Free line
-    }
+    ensures held { (line : LineNumber) → held_by result.held line
+        ≡ constant_on items.now (take (length items.now) lines.now) Tie.Free line }
     ensures inside { (line : LineNumber) → slice_index_or result.tieable line false ≡ true → line < count }
-    ensures no_item {
-        (line : LineNumber) → slice_index_or result.tieable line false ≡ true →
-            (x : ℕ) → x < length items.now → slice_index lines.now x ≢ line
-    }
-    ensures every {
-        (line : LineNumber) → line < count →
-            ((x : ℕ) → x < length items.now → slice_index lines.now x ≢ line) →
-            slice_index_or result.tieable line false ≡ true
-    }
+    ensures no_item { (line : LineNumber) → slice_index_or result.tieable line false ≡ true →
+        (x : ℕ) → x < length items.now → slice_index lines.now x ≢ line }
+    ensures every { (line : LineNumber) → line < count →
+        ((x : ℕ) → x < length items.now → slice_index lines.now x ≢ line) →
+        slice_index_or result.tieable line false ≡ true }
 {
     let mut held = [Tie::Free; 12];
     let mut tieable = first_lines(count);

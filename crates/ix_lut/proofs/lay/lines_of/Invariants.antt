@@ -6,5 +6,5 @@ abbrev pub invariant-loop-i : goal.invariant-loop-i
 invariant-loop-i l = record {
   long : length l.chosen ≡ 6;
   chosen : (i : ℕ) → i < l.i →
-    slice_index l.chosen i ≡ slice_index l.lines (number_in l.items (item_at l.cell.nets i));
+      slice_index l.chosen i ≡ slice_index l.lines (number_in l.items (item_at l.cell.nets i));
 }

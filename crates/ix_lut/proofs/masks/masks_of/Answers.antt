@@ -20,8 +20,11 @@ loop-u-preserved c =
     let mask : ℕ = c.bel_mask-mask.result in
     let is : c.index-uses-u.result ≡ use_at uses u =
     c.index-uses-u.is ∙ get_or_default uses u c.index-uses-u.result (record { bel = 0; table = record { bits = 0; inputs = 0 }; nets = [] }) c.loop-u-test.true in
-    record { long = c.narrow.array_long; are = masks_next shape uses items c.requires.shape.lines u mask c.loop-u.masks c.narrow.new.masks
-    (subst (λ (cell : LutUse). (l : ℕ) → bit_at mask l ≡ 1 → Contains (input_lines (bel_at shape cell.bel)) l) is c.bel_mask-mask.ensures.only)
-    (subst (λ (cell : LutUse). (l : ℕ) → Contains (input_lines (bel_at shape cell.bel)) l → bit_at mask l ≡ 1) is c.bel_mask-mask.ensures.every)
-    (subst (λ (cell : LutUse). Narrows items cell.nets cell.table.inputs mask c.loop-u.masks c.narrow.new.masks) is c.narrow.ensures)
-    c.loop-u.invariant.are }
+    record {
+      long = c.narrow.array_long;
+      are = masks_next shape uses items c.requires.shape.lines u mask c.loop-u.masks c.narrow.new.masks
+          (subst (λ (cell : LutUse). (l : ℕ) → bit_at mask l ≡ 1 → Contains (input_lines (bel_at shape cell.bel)) l) is c.bel_mask-mask.ensures.only)
+          (subst (λ (cell : LutUse). (l : ℕ) → Contains (input_lines (bel_at shape cell.bel)) l → bit_at mask l ≡ 1) is c.bel_mask-mask.ensures.every)
+          (subst (λ (cell : LutUse). Narrows items cell.nets cell.table.inputs mask c.loop-u.masks c.narrow.new.masks) is c.narrow.ensures)
+          c.loop-u.invariant.are;
+    }

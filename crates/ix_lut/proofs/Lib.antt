@@ -14,3 +14,4 @@ pub mod Assigning
 pub mod Planning
 pub mod Showing
 pub mod PlanMade
+pub mod OneFunction

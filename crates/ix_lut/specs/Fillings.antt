@@ -18,7 +18,8 @@ Fills (mask ∷ masks) used (line ∷ lines) =
     (bit_at mask line ≡ 1) × (bit_at used line ≡ 0) × Fills masks (with_line used line) lines
 Fills _ used _ = ⊥
 
-pub record IsLeastFilling (masks : List LineSet) (used : LineSet) (lines : List LineNumber) : Type 0 where
+pub record IsLeastFilling (masks : List LineSet) (used : LineSet) (lines : List LineNumber)
+    : Type 0 where
   pub fills : Fills masks used lines
   pub least : (other : List LineNumber) → Fills masks used other → IsBefore other lines → ⊥
 

@@ -1,5 +1,26 @@
 -- The items of an element and the lines that they are assigned.
-use Rattle.std.specs.Prelude.{◌≡◌, ℕ, zero, suc, ◌+◌, ◌<◌, Bool, true, false, ◌&&◌, ◌==◌, if◌then◌else◌, List, [], ◌∷◌, ◌++◌, length, Contains, slice_index, slice_index_or}
+use Rattle.std.specs.Prelude.{
+  ◌≡◌,
+  ℕ,
+  zero,
+  suc,
+  ◌+◌,
+  ◌<◌,
+  Bool,
+  true,
+  false,
+  ◌&&◌,
+  ◌==◌,
+  if◌then◌else◌,
+  List,
+  [],
+  ◌∷◌,
+  ◌++◌,
+  length,
+  Contains,
+  slice_index,
+  slice_index_or,
+}
 use Rattle.ix_num.specs.declared.resource.NetRef.{NetRef}
 use Rattle.ix_num.specs.declared.resource.NetRef.TheVariants.{Gnd, Vcc, Signal}
 use Rattle.ix_lut.specs.Tables.{AllDiffer}
@@ -20,7 +41,8 @@ ItemNumber = ℕ
 
 -- the LUT cell at a place; below their number alone
 abbrev pub use_at : List LutUse → UseNumber → LutUse
-use_at uses u = slice_index_or uses u (record { bel = 0; table = record { bits = 0; inputs = 0 }; nets = [] })
+use_at uses u = slice_index_or uses u
+    (record { bel = 0; table = record { bits = 0; inputs = 0 }; nets = [] })
 
 abbrev pub same_net : NetRef → NetRef → Bool
 same_net Gnd Gnd = true
@@ -69,17 +91,21 @@ all_items uses = items_of uses (length uses)
 
 -- the line of a cell's input, where each item has a line
 abbrev pub line_of_input : List LutUse → List LineNumber → LutUse → ℕ → LineNumber
-line_of_input uses lines cell i = slice_index lines (number_in (all_items uses) (item_at cell.nets i))
+line_of_input uses lines cell i =
+    slice_index lines (number_in (all_items uses) (item_at cell.nets i))
 
 -- each item has a line of its own, which is an input line of every cell with that item
-pub record IsAssignment (shape : ElementShape) (uses : List LutUse) (lines : List LineNumber) : Type 0 where
+pub record IsAssignment (shape : ElementShape) (uses : List LutUse) (lines : List LineNumber)
+    : Type 0 where
   pub every : length lines ≡ length (all_items uses)
   pub on_lines : (x : ItemNumber) → x < length lines → slice_index lines x < shape.lines
   pub own : AllDiffer lines
   pub reached : (u : UseNumber) (i : ℕ) → u < length uses → i < (use_at uses u).table.inputs →
-      Contains (input_lines (bel_at shape (use_at uses u).bel)) (line_of_input uses lines (use_at uses u) i)
+      Contains (input_lines (bel_at shape (use_at uses u).bel))
+      (line_of_input uses lines (use_at uses u) i)
 
 -- the least assignment: an assignment, and every list before it is none
-pub record IsLeastAssignment (shape : ElementShape) (uses : List LutUse) (lines : List LineNumber) : Type 0 where
+pub record IsLeastAssignment (shape : ElementShape) (uses : List LutUse) (lines : List LineNumber)
+    : Type 0 where
   pub assigns : IsAssignment shape uses lines
   pub least : (other : List LineNumber) → IsAssignment shape uses other → IsBefore other lines → ⊥

@@ -6,7 +6,8 @@ use Rattle.ix_lut.specs.Places.{LutPlace, Held, ElementBits, Agrees}
 
 -- at some values below `upto` that agree with the constants the LUT reads `bit`, its own inputs
 -- spelling `n`
-pub record ReadsAt (lut : LutPlace) (held : Held) (bits : ElementBits) (upto bit n : ℕ) : Type 0 where
+pub record ReadsAt (lut : LutPlace) (held : Held) (bits : ElementBits) (upto bit n : ℕ)
+    : Type 0 where
   pub v : InputValues
   pub below : v < upto
   pub agrees : Agrees lut held v

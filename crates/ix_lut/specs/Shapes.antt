@@ -31,7 +31,8 @@ pub record IsUsableBel (lines : ℕ) (bel : BelShape) : Type 0 where
 pub record IsUsable (shape : ElementShape) : Type 0 where
   pub lines : shape.lines ≤ 12
   pub bels : shape.bel_count ≤ 8
-  pub each : (place : BelPlace) → place < shape.bel_count → IsUsableBel shape.lines (bel_at shape place)
+  pub each : (place : BelPlace) → place < shape.bel_count →
+      IsUsableBel shape.lines (bel_at shape place)
 
 -- a LUT on the BEL, its inputs at these places among the BEL's
 abbrev pub lut_on : BelShape → List InputPlace → LutPlace

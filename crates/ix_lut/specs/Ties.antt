@@ -14,7 +14,8 @@ constant_of net.Vcc = Vcc
 constant_of (net.Signal n) = Free
 
 -- one of the first `count` LUTs forces the bit `at` to `bit`
-pub record IsForced (count : ℕ) (luts : ℕ → LutPlace) (tables : ℕ → TableBits) (held : Held) (at bit : ℕ) : Type 0 where
+pub record IsForced (count : ℕ) (luts : ℕ → LutPlace)
+    (tables : ℕ → TableBits) (held : Held) (at bit : ℕ) : Type 0 where
   pub u : ℕ
   pub within : u < count
   pub forces : Forces (luts u) (tables u) held at bit

@@ -1,6 +1,7 @@
 //! The values of a BEL's inputs that agree with the constants on its lines.
 
-ghost use Rattle.std.specs.Prelude.{◌≡◌, ℕ, ◌+◌, ◌^◌, ◌<◌, ◌≤◌, ◌↔◌, Contains, length, slice_index, IsTrue};
+ghost use Rattle.std.specs.Prelude.{◌≡◌, ℕ, ◌+◌, ◌^◌, ◌<◌, ◌≤◌, ◌↔◌, Contains, length, slice_index};
+ghost use Rattle.std.specs.Prelude.{IsTrue};
 ghost use Rattle.std.specs.Int.{bit_at};
 ghost use Rattle.ix_lut.specs.Tables.{IsTable};
 ghost use Rattle.ix_lut.specs.Places.{Allows, Agrees};
@@ -43,8 +44,10 @@ fn is_among(places: &[u32], place: u32) -> bool
 pub(crate) fn agreeing(bel: &BelShape, places: &[u32], held: &[Tie; 12]) -> u64
     requires { IsUsableBel 12 bel.now }
     ensures table { IsTable bel.now.inputs result }
-    ensures only { (v : ℕ) → bit_at result v ≡ 1 → Agrees (lut_on bel.now places.now) (held_by held.now) v }
-    ensures every { (v : ℕ) → Agrees (lut_on bel.now places.now) (held_by held.now) v → bit_at result v ≡ 1 }
+    ensures only { (v : ℕ) → bit_at result v ≡ 1 →
+        Agrees (lut_on bel.now places.now) (held_by held.now) v }
+    ensures every { (v : ℕ) → Agrees (lut_on bel.now places.now) (held_by held.now) v →
+        bit_at result v ≡ 1 }
 {
     let mut word = u64::MAX >> (64 - (1u32 << bel.inputs));
     for j in 0..bel.inputs {

@@ -1,6 +1,7 @@
 //! The least assignment of lines to items.
 
-ghost use Rattle.std.specs.Prelude.{◌≡◌, ℕ, ◌+◌, ◌^◌, ◌<◌, ◌≤◌, List, IfSome, IfNone, length, take, drop, slice_index, true, false};
+ghost use Rattle.std.specs.Prelude.{◌≡◌, ℕ, ◌+◌, ◌^◌, ◌<◌, ◌≤◌, List, IfSome, IfNone, length, take};
+ghost use Rattle.std.specs.Prelude.{drop, slice_index, true, false};
 ghost use Rattle.std.specs.Int.{bit_at};
 ghost use Rattle.ix_lut.specs.Fillings.{Fills, IsLeastFilling, KnowsFailed};
 
@@ -17,8 +18,8 @@ fn may_take(mask: u32, used: u32, line: u32) -> bool
 }
 
 /// Gives lines to the items from `item` on, the least first, beside those of the set `used`;
-/// `failed` keeps for each set of used lines one more than the item that was tried in vain there, so
-/// that no set is tried twice. It goes no deeper than there are lines.
+/// `failed` keeps for each set of used lines one more than the item that was tried in vain there,
+/// so that no set is tried twice. It goes no deeper than there are lines.
 fn fill(
     masks: &[u32],
     item: usize,
@@ -60,7 +61,8 @@ fn fill(
 pub(crate) fn least_lines(masks: &[u32]) -> Option<[u32; 48]>
     requires few { length masks.now ≤ 48 }
     requires small { (i : ℕ) → i < length masks.now → slice_index masks.now i < 4096 }
-    ensures found { IfSome result (λ lines. IsLeastFilling masks.now 0 (take (length masks.now) lines)) }
+    ensures found { IfSome result
+        (λ lines. IsLeastFilling masks.now 0 (take (length masks.now) lines)) }
     ensures none { IfNone result ((lines : List ℕ) → Fills masks.now 0 lines → ⊥) }
 {
     let mut lines = [0; 48];

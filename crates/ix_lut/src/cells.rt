@@ -42,14 +42,16 @@ pub(crate) fn lay_cells(
 ) -> LaidCells
     requires shape { IsUsable shape.now }
     requires uses { length uses.now ≤ 8 }
-    requires on_bels { (u : ℕ) → u < length uses.now → (use_at uses.now u).bel < shape.now.bel_count }
+    requires on_bels { (u : ℕ) → u < length uses.now →
+        (use_at uses.now u).bel < shape.now.bel_count }
     requires few { (u : ℕ) → u < length uses.now → (use_at uses.now u).table.inputs ≤ 6 }
     requires here { (u i : ℕ) → u < length uses.now → i < (use_at uses.now u).table.inputs →
         number_in items.now (item_at (use_at uses.now u).nets i) < 48 }
     requires reached { (u i : ℕ) → u < length uses.now → i < (use_at uses.now u).table.inputs →
         Contains (input_lines (bel_at shape.now (use_at uses.now u).bel))
         (slice_index lines.now (number_in items.now (item_at (use_at uses.now u).nets i))) }
-    ensures laid { AreLaid shape.now uses.now items.now lines.now (length uses.now) result.choice result.luts }
+    ensures laid { AreLaid shape.now uses.now items.now lines.now
+        (length uses.now) result.choice result.luts }
     ensures long { length result.luts ≡ 8 }
 {
     let mut choice = [[0; 6]; 8];
@@ -65,8 +67,10 @@ pub(crate) fn lay_cells(
 
 /// The ties of lines that may be tied; the others are free.
 pub(crate) fn shown_ties(tieable: &[bool; 12], held: &[Tie; 12]) -> [Tie; 12]
-    ensures shown { (line : ℕ) → slice_index_or tieable.now line false ≡ true → held_by result line ≡ held_by held.now line }
-    ensures hidden { (line : ℕ) → slice_index_or tieable.now line false ≡ false → held_by result line ≡ Tie.Free }
+    ensures shown { (line : ℕ) → slice_index_or tieable.now line false ≡ true →
+        held_by result line ≡ held_by held.now line }
+    ensures hidden { (line : ℕ) → slice_index_or tieable.now line false ≡ false →
+        held_by result line ≡ Tie.Free }
 {
     let mut ties = [Tie::Free; 12];
     for line in 0..12 {

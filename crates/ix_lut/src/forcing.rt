@@ -1,10 +1,12 @@
 //! The bits of an element's table that its LUTs force, and the ties under which none is forced both
 //! ways.
 
-ghost use Rattle.std.specs.Prelude.{◌≡◌, ◌+◌, ◌^◌, ◌<◌, ◌≤◌, ◌↔◌, IsTrue, IsFalse, IfSome, IfNone, length, take, slice_index, slice_index_or, ◌≢◌, ℕ, true, false};
+ghost use Rattle.std.specs.Prelude.{◌≡◌, ◌+◌, ◌^◌, ◌<◌, ◌≤◌, ◌↔◌, IsTrue, IsFalse, IfSome, IfNone};
+ghost use Rattle.std.specs.Prelude.{length, take, slice_index, slice_index_or, ◌≢◌, ℕ, true, false};
 ghost use Rattle.ix_lut.specs.Shapes.{held_by};
 ghost use Rattle.ix_lut.specs.Places.{Held};
-ghost use Rattle.ix_lut.specs.Forcing.{AreReady, AreForced, AreApart, HasForced, CanComplete, IsLeastHeld, Completes, rank};
+ghost use Rattle.ix_lut.specs.Forcing.{AreReady, AreForced, AreApart, HasForced, CanComplete};
+ghost use Rattle.ix_lut.specs.Forcing.{IsLeastHeld, Completes, rank};
 
 use crate::agreeing::agreeing;
 use crate::shape::{BelShape, Tie};
@@ -53,8 +55,8 @@ fn are_apart(luts: &[Lut], held: &[Tie; 12]) -> bool
     forced.zeros & forced.ones == 0
 }
 
-/// Whether some ties of the tieable lines from `from` on leave no bit forced both ways. A tie forces
-/// fewer bits than a free line, so each such line is tied to vcc or gnd.
+/// Whether some ties of the tieable lines from `from` on leave no bit forced both ways. A tie
+/// forces fewer bits than a free line, so each such line is tied to vcc or gnd.
 fn can_complete(luts: &[Lut], tieable: &[bool; 12], held: [Tie; 12], from: usize) -> bool
     requires ready { AreReady luts.now }
     requires from { from ≤ 12 }
@@ -106,7 +108,8 @@ fn set_least_tie(luts: &[Lut], tieable: &[bool; 12], held: &mut [Tie; 12], line:
 /// ways; None where no ties do. `held` is what holds the others.
 pub(crate) fn least_ties(luts: &[Lut], tieable: &[bool; 12], held: [Tie; 12]) -> Option<[Tie; 12]>
     requires { AreReady luts.now }
-    ensures least { IfSome result (λ ties. IsLeastHeld luts.now tieable.now (held_by held) (held_by ties)) }
+    ensures least { IfSome result
+        (λ ties. IsLeastHeld luts.now tieable.now (held_by held) (held_by ties)) }
     ensures none { IfNone result (CanComplete luts.now tieable.now (held_by held) 0 → ⊥) }
 {
     if !can_complete(luts, tieable, held, 0) {

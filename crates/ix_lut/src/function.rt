@@ -23,6 +23,7 @@ fn readings_of(bel: &BelShape, bits: u64, inputs: &[u32], ties: &[Tie; 12]) -> R
     requires bel { IsUsableBel 12 bel.now }
     requires inputs { ArePlaces bel.now.inputs inputs.now }
     requires few { length inputs.now ≤ 6 }
+    ensures long { length (input_lines bel.now) ≡ bel.now.inputs }
     ensures zeros { let count = 2 ^ length (input_lines bel.now)
         in HasRead (lut_on bel.now inputs.now) (held_by ties.now) bits count 0 result.zeros }
     ensures ones { let count = 2 ^ length (input_lines bel.now)
@@ -60,8 +61,13 @@ pub fn function_at(
     ensures inputs { IfSome result (λ table. table.inputs ≡ length inputs.now) }
     ensures table { IfSome result (λ table. IsTable table.inputs table.bits) }
     ensures function { IfSome result (λ table.
-        GivesFunction (lut_on (bel_at shape.now bel) inputs.now) (held_by ties.now) bits table.bits) }
-    ensures none { IfNone result (HasNoFunction (lut_on (bel_at shape.now bel) inputs.now) (held_by ties.now) bits) }
+        GivesFunction (lut_on (bel_at shape.now bel) inputs.now)
+        (held_by ties.now) bits table.bits) }
+    ensures only { IfSome result (λ table. (other : ℕ) → IsTable table.inputs other →
+        GivesFunction (lut_on (bel_at shape.now bel) inputs.now) (held_by ties.now) bits other →
+        other ≡ table.bits) }
+    ensures none { IfNone result (HasNoFunction (lut_on (bel_at shape.now bel) inputs.now)
+        (held_by ties.now) bits) }
 {
     let readings = readings_of(&shape.bels[bel as usize], bits, inputs, ties);
     if readings.zeros & readings.ones != 0 {

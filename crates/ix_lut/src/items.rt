@@ -2,7 +2,8 @@
 
 ghost use Rattle.std.specs.Prelude.{◌≡◌, ℕ, ◌+◌, ◌*◌, ◌^◌, ◌<◌, ◌≤◌, length, take, slice_index};
 ghost use Rattle.std.specs.Int.{bit_at};
-ghost use Rattle.ix_lut.specs.Items.{same_net, same_item, count_on, item_at, number_in, with_item, with_items, items_of, all_items, use_at};
+ghost use Rattle.ix_lut.specs.Items.{same_net, same_item, count_on, item_at, number_in, with_item};
+ghost use Rattle.ix_lut.specs.Items.{with_items, items_of, all_items, use_at};
 
 use crate::uses::{Item, Items, LutUse};
 use ix_num::NetRef;
@@ -53,7 +54,8 @@ pub(crate) fn number_of(items: &[Item], item: &Item) -> usize
 /// Adds an item where it isn't there yet.
 fn add_item(items: &mut Items, item: Item)
     requires { items.old.count < 48 }
-    ensures items { take items.new.count items.new.items ≡ with_item (take items.old.count items.old.items) item }
+    ensures items { take items.new.count items.new.items ≡
+        with_item (take items.old.count items.old.items) item }
     ensures count { items.new.count ≤ items.old.count + 1 }
     ensures kept { items.old.count ≤ items.new.count }
 {

@@ -19,9 +19,11 @@ use ix_num::NetRef;
 /// The lines of a cell's inputs, where each item has a line.
 pub(crate) fn lines_of(items: &[Item], lines: &[u32; 48], cell: &LutUse) -> [u32; 6]
     requires few { cell.now.table.inputs ≤ 6 }
-    requires here { (i : ℕ) → i < cell.now.table.inputs → number_in items.now (item_at cell.now.nets i) < 48 }
+    requires here { (i : ℕ) → i < cell.now.table.inputs →
+        number_in items.now (item_at cell.now.nets i) < 48 }
     ensures { (i : ℕ) → i < cell.now.table.inputs →
-        slice_index result i ≡ slice_index lines.now (number_in items.now (item_at cell.now.nets i)) }
+        slice_index result i ≡ slice_index lines.now (number_in items.now
+        (item_at cell.now.nets i)) }
 {
     let mut chosen = [0; 6];
     for i in 0..cell.table.inputs as usize {
@@ -120,7 +122,8 @@ pub(crate) fn hold_lines(items: &[Item], lines: &[u32; 48], count: u32) -> Lines
     requires inside { (x : ℕ) → x < length items.now → slice_index lines.now x < 12 }
     ensures held { (line : LineNumber) → held_by result.held line
         ≡ constant_on items.now (take (length items.now) lines.now) Tie.Free line }
-    ensures inside { (line : LineNumber) → slice_index_or result.tieable line false ≡ true → line < count }
+    ensures inside { (line : LineNumber) → slice_index_or result.tieable line false ≡ true →
+        line < count }
     ensures no_item { (line : LineNumber) → slice_index_or result.tieable line false ≡ true →
         (x : ℕ) → x < length items.now → slice_index lines.now x ≢ line }
     ensures every { (line : LineNumber) → line < count →

@@ -1,6 +1,7 @@
 //! The lines that each item of an element may have.
 
-ghost use Rattle.std.specs.Prelude.{◌≡◌, ℕ, ◌+◌, ◌^◌, ◌<◌, ◌≤◌, Contains, length, take, slice_index};
+ghost use Rattle.std.specs.Prelude.{◌≡◌, ℕ, ◌+◌, ◌^◌, ◌<◌, ◌≤◌, Contains, length, take};
+ghost use Rattle.std.specs.Prelude.{slice_index};
 ghost use Rattle.std.specs.Int.{bit_at};
 ghost use Rattle.ix_lut.specs.Shapes.{IsUsable, IsUsableBel, bel_at, input_lines};
 ghost use Rattle.ix_lut.specs.Items.{use_at};
@@ -40,7 +41,8 @@ fn narrow(masks: &mut [u32; 48], items: &[Item], cell: &LutUse, mask: u32)
 /// For each item the lines that are input lines of each cell that has it.
 pub(crate) fn masks_of(shape: &ElementShape, uses: &[LutUse], items: &[Item]) -> [u32; 48]
     requires shape { IsUsable shape.now }
-    requires on_bels { (u : ℕ) → u < length uses.now → (use_at uses.now u).bel < shape.now.bel_count }
+    requires on_bels { (u : ℕ) → u < length uses.now →
+        (use_at uses.now u).bel < shape.now.bel_count }
     requires few { (u : ℕ) → u < length uses.now → (use_at uses.now u).table.inputs ≤ 6 }
     ensures are { AreMasks shape.now uses.now items.now (length uses.now) result }
     ensures long { length result ≡ 48 }

@@ -34,7 +34,8 @@ pub(crate) fn spread(bits: u64, places: &[u32], inputs: u32) -> u64
     requires small { inputs ≤ 6 }
     requires within { (i : ℕ) → i < length places.now → slice_index places.now i < 6 }
     ensures table { IsTable inputs result }
-    ensures values { (v : ℕ) → v < 2 ^ inputs → bit_at result v ≡ bit_at bits (spelled places.now v) }
+    ensures values { (v : ℕ) → v < 2 ^ inputs →
+        bit_at result v ≡ bit_at bits (spelled places.now v) }
 {
     let mut word = 0;
     for v in 0..1u32 << inputs {

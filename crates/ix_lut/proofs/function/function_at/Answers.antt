@@ -1,6 +1,9 @@
-use Rattle.std.proofs.Common.{◌<◌, ◌≤◌, ◌^◌, length, arith, bit_and, rules}
+use Rattle.std.proofs.Common.{ℕ, sym, subst, ◌<◌, ◌≤◌, ◌^◌, length, arith, bit_and, rules}
 use Rattle.std.proofs.lemmas.Nat.{and_le_l}
 use Rattle.std.proofs.Math.Pow.{pow_mono}
+use Rattle.ix_lut.specs.Tables.{ArePlaces}
+use Rattle.ix_lut.specs.declared.shape.BelShape.{BelShape}
+use Rattle.ix_lut.proofs.OneFunction.{one_function}
 use Rattle.ix_lut.specs.Shapes.{bel_at, held_by, lut_on}
 use Rattle.ix_lut.proofs.Pigeons.{length_of_different}
 use Rattle.ix_lut.proofs.Reading.{read_gives, read_none_given}
@@ -42,3 +45,14 @@ returns-clause-function c =
     let r = c.readings_of-readings.result in
     read_gives (lut_on (bel_at c.args.shape.now c.args.bel) c.args.inputs.now) (held_by c.args.ties.now) c.args.bits
     r.zeros r.ones c.readings_of-readings.ensures.zeros c.readings_of-readings.ensures.ones c.if-readings-ne0.false
+
+pub returns-clause-only : goal.returns-clause-only
+returns-clause-only c = λ other is_table gives.
+    let bel : BelShape = bel_at c.args.shape.now c.args.bel in
+    let r = c.readings_of-readings.result in
+    one_function (lut_on bel c.args.inputs.now) (held_by c.args.ties.now) c.args.bits r.ones other
+    (subst (λ (n : ℕ). ArePlaces n c.args.inputs.now) (sym c.readings_of-readings.ensures.long) c.requires.inputs)
+    c.readings_of-readings.ensures.ones.small is_table
+    (read_gives (lut_on bel c.args.inputs.now) (held_by c.args.ties.now) c.args.bits
+    r.zeros r.ones c.readings_of-readings.ensures.zeros c.readings_of-readings.ensures.ones c.if-readings-ne0.false)
+    gives

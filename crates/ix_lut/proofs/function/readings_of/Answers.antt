@@ -64,6 +64,7 @@ returns c =
     let done : c.loop-v.v ≡ 2 ^ length (take c.args.bel.now.inputs c.args.bel.now.lines) =
     rw count (omega (arith, c.loop-v-test.false, c.loop-v.auto.v-end, values_fit c.args.bel.now.inputs c.requires.bel.few)) in
     record {
+      long = count;
       zeros = subst (λ (n : ℕ). HasRead lut held c.args.bits n 0 c.loop-v.zeros) done c.loop-v.invariant.zeros;
       ones = subst (λ (n : ℕ). HasRead lut held c.args.bits n 1 c.loop-v.ones) done c.loop-v.invariant.ones;
     }

@@ -1,0 +1,17 @@
+pub mod Bits
+pub mod Spelling
+pub mod Spreading
+pub mod Words
+pub mod Reading
+pub mod Pigeons
+pub mod Tying
+pub mod ForcedWords
+pub mod Filling
+pub mod Masking
+pub mod Laying
+pub mod CellsLaid
+pub mod Assigning
+pub mod Planning
+pub mod Showing
+pub mod PlanMade
+pub mod OneFunction

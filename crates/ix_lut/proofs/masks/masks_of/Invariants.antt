@@ -1,0 +1,9 @@
+use Rattle.std.proofs.Common.{◌≡◌, length}
+use Rattle.ix_lut.specs.Masks.{AreMasks}
+use Rattle.ix_lut.proofs.masks.masks_of.Given as goal
+
+abbrev pub invariant-loop-u : goal.invariant-loop-u
+invariant-loop-u l = record {
+  long : length l.masks ≡ 48;
+  are : AreMasks l.shape l.uses l.items l.u l.masks;
+}

@@ -1,0 +1,14 @@
+-- What the contracts of public functions cite.
+pub mod Tables
+pub mod Places
+pub mod Shapes
+pub mod Orders
+pub mod Items
+pub mod Ties
+pub mod Plans
+-- What only private contracts cite.
+pub mod Readings
+pub mod Forcing
+pub mod Fillings
+pub mod Masks
+pub mod Laid

@@ -42,7 +42,7 @@ impl Budget {
     }
 
     /// More than any reading may cost.
-    pub(crate) fn endless() -> Budget
+    pub fn endless() -> Budget
         ensures { result ≡ 2 ^ 64 - 1 }
     {
         Budget(u64::MAX)

@@ -159,9 +159,9 @@ impl Draw {
         ((self.0 >> 33) % u64::from(n)) as u32
     }
 
-    fn pair(&mut self, reach: u32) -> (u32, u32) {
+    fn pair(&mut self, reach: u32, down: u32) -> (u32, u32) {
         let (x, y) = (self.below(1000), self.below(1000));
-        let (dx, dy) = (self.below(reach), self.below(reach));
+        let (dx, dy) = (self.below(reach), self.below(down));
         let point = |x: u32, y: u32| (y + 1) * WIDTH + x + 1;
         (point(x, y), point((x + dx).min(999), (y + dy).min(999)))
     }
@@ -184,12 +184,12 @@ fn distances(target: u32) -> Vec<u64> {
         .collect()
 }
 
-fn run(search: &mut Search, cells: &[u8], count: u32, reach: u32, bounded: bool, name: &str) {
+fn run(search: &mut Search, cells: &[u8], count: u32, (reach, down): (u32, u32), bounded: bool, name: &str) {
     let mut draw = Draw(7);
     let (mut fold, mut nanos) = (0u64, 0);
     search.settled = 0;
     for _ in 0..count {
-        let (source, target) = draw.pair(reach);
+        let (source, target) = draw.pair(reach, down);
         let bounds = if bounded { distances(target) } else { Vec::new() };
         let start = Instant::now();
         let found = if bounded {
@@ -208,10 +208,13 @@ fn run(search: &mut Search, cells: &[u8], count: u32, reach: u32, bounded: bool,
 fn main() {
     let (mixed, open) = (cells(8), cells(1));
     let mut search = Search::new();
-    run(&mut search, &mixed, 2, 1000, false, "warm");
-    run(&mut search, &mixed, 10, 1000, false, "far");
-    run(&mut search, &mixed, 10000, 8, false, "near");
-    run(&mut search, &open, 4, 1000, false, "open");
-    run(&mut search, &open, 4, 1000, true, "open bounded");
-    run(&mut search, &mixed, 4, 1000, true, "mixed bounded");
+    let (far, near, row) = ((1000, 1000), (8, 8), (1000, 1));
+    run(&mut search, &mixed, 2, far, false, "warm");
+    run(&mut search, &mixed, 10, far, false, "far");
+    run(&mut search, &mixed, 10000, near, false, "near");
+    run(&mut search, &open, 4, far, false, "open");
+    run(&mut search, &open, 4, far, true, "open bounded");
+    run(&mut search, &open, 4, row, false, "open row");
+    run(&mut search, &open, 4, row, true, "open row bounded");
+    run(&mut search, &mixed, 4, far, true, "mixed bounded");
 }

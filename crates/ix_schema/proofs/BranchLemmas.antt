@@ -1,15 +1,15 @@
 -- Branches: what is passed over, what is read, and that no bound above what there is to read matters.
-use Rattle.std.proofs.Common.{◌≡◌, ◌≤◌, ◌<◌, ◌+◌, ◌-◌, ℕ, zero, suc, List, [], ◌∷◌, ◌++◌, Result, Ok, Err, refl, sym, ap, subst, ◌∙◌, arith}
+use Rattle.std.proofs.Common.{◌≡◌, ◌≤◌, ◌<◌, ◌+◌, ℕ, zero, suc, List, Result, Ok, Err, refl, ap, ◌∙◌, arith}
 use Rattle.std.specs.Prelude.{IfOk}
 use Rattle.ix_num.specs.declared.fault.FrameFault.{FrameFault}
 use Rattle.ix_frame.specs.Result.{◌>>=◌}
-use Rattle.ix_frame.specs.Target.{Object, Elements}
+use Rattle.ix_frame.specs.Target.{Elements}
 use Rattle.ix_frame.specs.Objects.{elements_at, element_of}
-use Rattle.ix_message.specs.Shape.{Field, Branches, ends, branch}
+use Rattle.ix_message.specs.Shape.{Field, branch}
 use Rattle.ix_message.specs.Reading.{Reads, row_at, branches_from}
 use Rattle.ix_schema.specs.Passed.{Left, branches_left}
 use Rattle.ix_schema.proofs.Sound.{Richer, elements_richer}
-use Rattle.ix_schema.proofs.Steps.{and_then, and_next, elements_at_left}
+use Rattle.ix_schema.proofs.Steps.{and_then, elements_at_left}
 
 pub bind_same : {A B E : Type 0} (P : A → Type 0) (r : Result A E) (f g : A → Result B E) → IfOk r P → ((x : A) → P x → f x ≡ g x) → (r >>= f) ≡ (r >>= g)
 bind_same P (Ok x) f g h same = same x h

@@ -1,6 +1,5 @@
 -- Whole messages.
-use Rattle.std.proofs.Common.{◌≡◌, ◌≤◌, ℕ, List, Result, Ok, Err, refl, sym, ap, ◌∙◌, arith}
-use Rattle.std.specs.Prelude.{IfOk}
+use Rattle.std.proofs.Common.{◌≡◌, ◌≤◌, ℕ, Ok, Err, refl, ◌∙◌, arith}
 use Rattle.ix_num.specs.declared.fault.FrameFault.{FrameFault}
 use Rattle.ix_rec.specs.declared.fault.ReadFault.{ReadFault}
 use Rattle.ix_rec.specs.declared.fault.ReadFault.TheVariants.{Frame, Index, Memory}
@@ -9,13 +8,13 @@ use Rattle.ix_frame.specs.Segments.{Segments}
 use Rattle.ix_frame.specs.Sound.{endless}
 use Rattle.ix_frame.specs.Target.{Object}
 use Rattle.ix_frame.specs.Objects.{root_of, whole_budget}
-use Rattle.ix_message.specs.Shape.{Text, Struct, Value}
-use Rattle.ix_message.specs.Reading.{root_at, texts_at, value_at, table_slot, pointers_of}
+use Rattle.ix_message.specs.Shape.{Struct}
+use Rattle.ix_message.specs.Reading.{root_at, table_slot, pointers_of}
 use Rattle.ix_message.specs.Message.{numbers_in_segments}
 use Rattle.ix_message_read.specs.Tells.{Fails}
 use Rattle.ix_schema.specs.Said.{said, table_said}
-use Rattle.ix_schema.specs.Passed.{Left, left_at, texts_passed}
-use Rattle.ix_schema.proofs.Splits.{Splits, value_splits, texts_at_split}
+use Rattle.ix_schema.specs.Passed.{left_at, texts_passed}
+use Rattle.ix_schema.proofs.Splits.{value_splits, texts_at_split}
 
 -- a message whose root is known
 rooted : (s : Struct) (all : Segments) (root : Object × ℕ) → root_of all (whole_budget all) ≡ Ok root → numbers_in_segments s all ≡ (root_at s root.0 root.1 >>= λ found. Ok found.0)

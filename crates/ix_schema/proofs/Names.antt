@@ -1,6 +1,6 @@
 -- Names by numbers.
 use Prim.Native.String.{String}
-use Rattle.std.proofs.Common.{◌≡◌, ◌≤◌, ◌<◌, ℕ, zero, suc, List, [], ◌∷◌, length, map, get_or, Bool, true, false, Bor, refl, sym, ap, ◌∙◌, arith}
+use Rattle.std.proofs.Common.{◌≡◌, ◌≤◌, ◌<◌, ℕ, zero, suc, List, [], ◌∷◌, length, map, get_or, true, Bor, refl, sym, ap, ◌∙◌}
 use Rattle.std.proofs.lemmas.List.{length-map}
 use Rattle.std.proofs.lemmas.Option.{slice_get-get_or, slice_get_past}
 use Rattle.std.specs.Prelude.{Option, Some, None, ◌&&◌, ◌==◌, codes, slice_get, slice_index_or}
@@ -8,7 +8,7 @@ use Rattle.std.proofs.lemmas.Bool.{and_parts, eqb-true}
 use Rattle.ix_message.specs.Shape.{Text, Struct}
 use Rattle.ix_message.specs.Names.{same_text}
 use Rattle.ix_schema.specs.declared.form.StructForm.{StructForm}
-use Rattle.ix_schema.specs.Named.{same_texts, called_of, names_of, are_named, kind_text, field_text, no_struct}
+use Rattle.ix_schema.specs.Named.{same_texts, called_of, names_of, are_named, kind_text, field_text}
 
 pub same_is : (a b : Text) → same_text a b ≡ true → a ≡ b
 same_is [] [] h = refl

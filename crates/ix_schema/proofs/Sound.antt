@@ -1,10 +1,9 @@
 -- What is found behind a pointer with some budget is found with any greater one, which is left with as much more.
-use Rattle.std.proofs.Common.{◌≡◌, ◌≤◌, ◌+◌, ◌-◌, ℕ, zero, suc, Bool, true, false, List, Result, Ok, Err, refl, sym, ap, subst, ◌∙◌, arith}
-use Rattle.std.specs.Prelude.{Option, Some, None, IfOk, if◌then◌else◌, nat_le, nat_lt, ◌==◌}
+use Rattle.std.proofs.Common.{◌≡◌, ◌≤◌, ◌+◌, ◌-◌, ℕ, Bool, true, false, List, Result, Ok, Err, refl, subst, arith}
+use Rattle.std.specs.Prelude.{Option, Some, None, IfOk, if◌then◌else◌, nat_le, nat_lt}
 use Rattle.std.proofs.lemmas.Bool.{leb-true}
 use Rattle.std.proofs.lemmas.Bool.Decides.{nat_tests}
 use Rattle.ix_num.specs.declared.fault.FrameRule.{FrameRule}
-use Rattle.ix_num.specs.declared.fault.FrameRule.TheVariants.{F7}
 use Rattle.ix_frame.specs.Result.{◌>>=◌}
 use Rattle.ix_frame.specs.Segments.{Segments}
 use Rattle.ix_frame.specs.Target.{Pointed, Object, Elements, target, struct_target, list_target, composite_target}

@@ -1,12 +1,12 @@
 -- A reading is its first pass, and what the structs say where that finds no fault.
-use Rattle.std.proofs.Common.{◌≡◌, ◌≤◌, ◌<◌, ◌+◌, ◌-◌, ℕ, zero, suc, Bool, true, false, List, [], ◌∷◌, Result, Ok, Err, refl, sym, ap, subst, ◌∙◌, arith}
-use Rattle.std.specs.Prelude.{Option, Some, None, IfOk, if◌then◌else◌}
+use Rattle.std.proofs.Common.{◌≡◌, ◌≤◌, ◌<◌, ◌+◌, ◌-◌, ℕ, zero, suc, Bool, true, false, List, [], ◌∷◌, Result, Ok, Err, refl, sym, subst, arith}
+use Rattle.std.specs.Prelude.{Some, None, IfOk, if◌then◌else◌}
 use Rattle.ix_num.specs.declared.fault.FrameFault.{FrameFault}
 use Rattle.ix_frame.specs.Result.{◌>>=◌}
 use Rattle.ix_frame.specs.Target.{Object, Elements}
 use Rattle.ix_frame.specs.Objects.{struct_at, elements_at, list_at, text_at, text_in, has_pointer, element_of, numbers_in}
 use Rattle.ix_frame.specs.Sound.{endless, found_or, sound_struct, sound_elements, sound_list, sound_text, sound_text_in}
-use Rattle.ix_message.specs.Shape.{Text, Field, Struct, Pointers, Branches, Value, Parts, struct_of, no_more, text, texts, numbers, struct, struct_or_none, boxed, structs, branches, string_table, unread, ends}
+use Rattle.ix_message.specs.Shape.{Field, Struct, Pointers, Branches, struct_of, no_more, text, texts, numbers, struct, struct_or_none, boxed, structs, branches, string_table, unread, ends}
 use Rattle.ix_message.specs.Reading.{Reads, row_at, each_from, texts_from, texts_at, branches_from, some_of, value_at, parts_at}
 use Rattle.ix_schema.specs.Said.{each_said, texts_said, branches_said, said, parts_said}
 use Rattle.ix_schema.specs.Passed.{Left, each_left, texts_left, texts_passed, branches_left, left_at, parts_left}

@@ -1,16 +1,15 @@
 -- Passing over branches with a stack of the lists that aren't done, the last on top.
-use Rattle.std.proofs.Common.{◌≡◌, ◌≤◌, ◌<◌, ◌+◌, ◌-◌, ◌*◌, ℕ, zero, suc, List, [], ◌∷◌, ◌++◌, length, length-append, Result, Ok, Err, refl, sym, ap, subst, ◌∙◌, arith}
+use Rattle.std.proofs.Common.{◌≡◌, ◌≤◌, ◌<◌, ◌+◌, ◌-◌, ◌*◌, ℕ, zero, suc, List, [], ◌∷◌, ◌++◌, length, length-append, Result, Ok, Err, refl, sym, ap, ◌∙◌, arith}
 use Rattle.std.specs.Prelude.{IfOk}
 use Rattle.std.specs.List.{sum_by}
 use Rattle.std.proofs.lemmas.List.Sums.{sum_by-cons, sum_by-append}
 use Rattle.ix_num.specs.declared.fault.FrameFault.{FrameFault}
 use Rattle.ix_frame.specs.Result.{◌>>=◌}
-use Rattle.ix_frame.specs.Target.{Object, Elements}
+use Rattle.ix_frame.specs.Target.{Elements}
 use Rattle.ix_frame.specs.Objects.{elements_at, element_of}
 use Rattle.ix_frame.specs.Views.{elements_of}
 use Rattle.ix_schema.specs.declared.branches.Open.{Open}
 use Rattle.ix_schema.specs.Passed.{Left, branches_left}
-use Rattle.ix_schema.proofs.Steps.{elements_at_left}
 use Rattle.ix_schema.proofs.BranchLemmas.{less_left, same_left, bind_same}
 
 -- how many branches of a list are still to be passed

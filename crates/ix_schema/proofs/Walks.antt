@@ -1,9 +1,9 @@
 -- Steps of a pass, as a loop does that has passed over some and goes on with the i-th.
-use Rattle.std.proofs.Common.{◌≡◌, ℕ, zero, suc, ◌-◌, ◌+◌, ◌≤◌, ◌<◌, List, [], ◌∷◌, length, Bool, true, false, Result, Ok, Err, refl, sym, ap, subst, ◌∙◌, drop, add-one, arith}
-use Rattle.std.specs.Prelude.{Option, Some, None, ◌&&◌, nat_lt, if◌then◌else◌, slice_get}
+use Rattle.std.proofs.Common.{◌≡◌, ℕ, zero, suc, ◌-◌, ◌+◌, ◌≤◌, ◌<◌, List, [], ◌∷◌, length, true, Result, Ok, Err, refl, sym, ap, subst, ◌∙◌, drop, add-one, arith}
+use Rattle.std.specs.Prelude.{Some, ◌&&◌, nat_lt, slice_get}
 use Rattle.std.specs.List.{list_all}
 use Rattle.std.proofs.lemmas.Bool.{ltb-true, and_parts}
-use Rattle.ix_frame.specs.Objects.{text_at, struct_at, elements_at, list_at, has_pointer}
+use Rattle.ix_frame.specs.Objects.{text_at, struct_at, elements_at, list_at}
 use Rattle.ix_num.specs.declared.fault.FrameFault.{FrameFault}
 use Rattle.ix_rec.specs.declared.fault.ReadFault.{ReadFault}
 use Rattle.ix_rec.specs.declared.fault.ReadFault.TheVariants.{Frame, Index, Memory}
@@ -16,7 +16,7 @@ use Rattle.ix_schema.specs.declared.form.Behind.{Behind}
 use Rattle.ix_schema.specs.declared.form.Behind.TheVariants.{Text as TextBehind, Texts, Numbers, Struct as OneStruct, StructOrNone, Boxed, Structs, Branches, Unread}
 use Rattle.ix_schema.specs.declared.form.StructForm.{StructForm}
 use Rattle.ix_schema.specs.Forms.{Ordered, are_forms, is_form, is_behind, is_lower, IsLower, are_ordered, pointers_in, pointer_left}
-use Rattle.ix_schema.specs.Passed.{Left, each_left, texts_left, texts_passed, branches_left, parts_left, left_at}
+use Rattle.ix_schema.specs.Passed.{Left, each_left, texts_left, branches_left, parts_left, left_at}
 
 -- What is still to be passed of a struct, from some pointer on.
 pub record StillTo (t : List StructForm) (fs : List Behind) (slot : ℕ) (o : Object) (budget : ℕ) (total : Left) : Type 0 where

@@ -1,5 +1,5 @@
 -- What the code's table of a message says of the message's structs.
-use Rattle.std.specs.Prelude.{◌≡◌, ℕ, ◌+◌, ◌<◌, ◌^◌, List, [], ◌∷◌, length, Bool, true, false, ◌&&◌, nat_lt, Option, Some, None, Ok, if◌then◌else◌, slice_get}
+use Rattle.std.specs.Prelude.{◌≡◌, ℕ, ◌+◌, ◌<◌, List, [], ◌∷◌, length, Bool, true, false, ◌&&◌, nat_lt, Option, Some, None, Ok, if◌then◌else◌, slice_get}
 use Rattle.std.specs.List.{list_all}
 use Rattle.ix_frame.specs.Result.{◌>>=◌}
 use Rattle.ix_frame.specs.Objects.{text_at, struct_at, elements_at, list_at, has_pointer}
@@ -8,7 +8,7 @@ use Rattle.ix_message.specs.Shape.{Struct, Pointers, struct_of, no_more, text, t
 use Rattle.ix_schema.specs.declared.form.StructForm.{StructForm}
 use Rattle.ix_schema.specs.declared.form.Behind.{Behind}
 use Rattle.ix_schema.specs.declared.form.Behind.TheVariants.{Text, Texts, Numbers, Struct as OneStruct, StructOrNone, Boxed, Structs, Branches, Unread}
-use Rattle.ix_schema.specs.Passed.{Left, each_left, texts_passed, branches_left, parts_left}
+use Rattle.ix_schema.specs.Passed.{Left, each_left, texts_passed, branches_left}
 
 abbrev pub pointers_in : Option StructForm → List Behind
 pointers_in None = []

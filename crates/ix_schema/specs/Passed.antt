@@ -83,3 +83,8 @@ unfoldable mutual
 abbrev pub Passes : {A : Type 0} → Result A ReadFault → ℕ → Left → Type 0
 Passes (Ok x) now given = given ≡ Ok now
 Passes (Err e) now given = Fails e given
+
+-- The same of a pass that takes no memory.
+abbrev pub PassesAlone : {A : Type 0} → Result A FrameFault → ℕ → Left → Type 0
+PassesAlone (Ok x) now given = given ≡ Ok now
+PassesAlone (Err f) now given = given ≡ Err f

@@ -1,8 +1,7 @@
 -- What the structs of a message say where its reading finds no fault, struct by struct and with no budget: the numbers
 -- of a reading, a part at a time. A pointer that can't be followed counts as zero, which no reading meets.
-use Rattle.std.specs.Prelude.{ℕ, zero, suc, ◌+◌, List, [], ◌∷◌, Option, Some, None, if◌then◌else◌}
-use Rattle.ix_frame.specs.Result.{◌>>=◌}
-use Rattle.ix_frame.specs.Objects.{elements_at, has_pointer, element_of, numbers_in}
+use Rattle.std.specs.Prelude.{ℕ, zero, suc, ◌+◌, List, [], ◌∷◌, Some, None, if◌then◌else◌}
+use Rattle.ix_frame.specs.Objects.{has_pointer, element_of, numbers_in}
 use Rattle.ix_frame.specs.Sound.{endless, found_or, sound_struct, sound_elements, sound_list, sound_text, sound_text_in}
 use Rattle.ix_frame.specs.Target.{Object, Elements}
 use Rattle.ix_message.specs.Shape.{Text, Field, Struct, Pointers, Branches, Value, Parts, struct_of, no_more, text, texts, numbers, struct, struct_or_none, boxed, structs, branches, string_table, unread, ends}

@@ -4,23 +4,24 @@ ghost use Rattle.std.specs.Prelude.{◌≡◌, ◌<◌, length, true, slice_get}
 ghost use Rattle.ix_frame.specs.Views.{object_of, elements_of, text_elements};
 ghost use Rattle.ix_message.specs.Shape.{Struct};
 ghost use Rattle.ix_schema.specs.Forms.{is_form, is_behind, IsLower, Ordered, pointer_left, pointers_in};
-ghost use Rattle.ix_schema.specs.Passed.{left_at, each_left, texts_left, texts_passed, branches_left, Passes};
+ghost use Rattle.ix_schema.specs.Passed.{left_at, each_left, texts_left, texts_passed, branches_left, Passes, PassesAlone};
 
 use crate::branches::pass_branches;
 use crate::form::Behind;
 use crate::table::Table;
 use ix_frame::{Budget, List, Obj, Texts};
+use ix_num::FrameFault;
 use ix_rec::ReadFault;
 use std::alloc::Global;
 
 /// Passes over the texts of a list.
-fn pass_texts(l: Texts<'_>, budget: &mut Budget) -> Result<(), ReadFault>
-    ensures { Passes result budget.new (texts_left (text_elements l.entry).count (text_elements l.entry) 0 budget.old) }
+fn pass_texts(l: Texts<'_>, budget: &mut Budget) -> Result<(), FrameFault>
+    ensures { PassesAlone result budget.new (texts_left (text_elements l.entry).count (text_elements l.entry) 0 budget.old) }
 {
     for i in 0..l.len() {
         match l.at(i, budget) {
             Ok(_) => {}
-            Err(fault) => return Err(ReadFault::Frame(fault)),
+            Err(fault) => return Err(fault),
         }
     }
     Ok(())
@@ -28,8 +29,8 @@ fn pass_texts(l: Texts<'_>, budget: &mut Budget) -> Result<(), ReadFault>
 
 /// Passes over the list of texts behind a pointer.
 #[tactic(auto, unfolding(crate::specs::Passed::texts_passed))]
-pub fn pass_texts_behind(o: Obj<'_>, slot: u32, budget: &mut Budget) -> Result<(), ReadFault>
-    ensures { Passes result budget.new (texts_passed (object_of o.entry) slot budget.old) }
+pub fn pass_texts_behind(o: Obj<'_>, slot: u32, budget: &mut Budget) -> Result<(), FrameFault>
+    ensures { PassesAlone result budget.new (texts_passed (object_of o.entry) slot budget.old) }
 {
     let l = o.texts(slot, budget)?;
     pass_texts(l, budget)
@@ -113,7 +114,10 @@ impl Table {
                 o.text(slot, budget)?;
                 Ok(())
             }
-            Behind::Texts => pass_texts_behind(o, slot, budget),
+            Behind::Texts => {
+                pass_texts_behind(o, slot, budget)?;
+                Ok(())
+            }
             Behind::Numbers => {
                 o.numbers(slot, budget)?;
                 Ok(())

@@ -1,6 +1,5 @@
 use Rattle.std.proofs.Common.{◌<◌, ◌≤◌, arith}
 use Rattle.ix_frame.specs.Views.{text_elements}
-use Rattle.ix_schema.specs.Passed.{texts_left}
 use Rattle.ix_schema.proofs.Walks.{text_goes_on, text_stops, texts_done}
 use Rattle.ix_schema.proofs.pass.pass_texts.Goals as goal
 

@@ -1,5 +1,6 @@
-use Rattle.std.proofs.Common.{◌≡◌, ◌≤◌, ◌-◌, ◌^◌, arith}
+use Rattle.std.proofs.Common.{◌≤◌, arith}
 use Rattle.std.proofs.lemmas.Result.{err_from_is_err_and}
+use Rattle.ix_rec.specs.declared.fault.ReadFault.TheVariants.{Frame}
 use Rattle.ix_frame.specs.Sound.{endless}
 use Rattle.ix_frame.specs.Views.{object_of, segments_of}
 use Rattle.ix_schema.proofs.Messages.{no_root, no_table, no_value, whole}
@@ -14,7 +15,7 @@ pub returns-in_err-pass_texts_behind : goal.returns-in_err-pass_texts_behind
 returns-in_err-pass_texts_behind c s is slot =
     let p = err_from_is_err_and c.from_residual-in_err-pass_texts_behind.result c.from_residual-in_err-pass_texts_behind.ensures.1 in
     let le : c.root.new.budget ≤ endless = omega (arith, c.in_ok-root.ensures.left, c.new-budget.ensures.bound) in
-    rw (p.1, p.2) (no_table s (segments_of c.args.frame.now) (object_of c.in_ok-root.root) c.root.new.budget c.in_err-pass_texts_behind.field-0.0 le (rw c.new-budget.ensures.exact at c.in_ok-root.ensures.exact) (rw slot at c.in_err-pass_texts_behind.ensures))
+    rw (p.1, p.2) (no_table s (segments_of c.args.frame.now) (object_of c.in_ok-root.root) c.root.new.budget (Frame c.in_err-pass_texts_behind.field-0.0) le (rw c.new-budget.ensures.exact at c.in_ok-root.ensures.exact) (rw slot at c.in_err-pass_texts_behind.ensures))
 
 pub returns-in_err-pass : goal.returns-in_err-pass
 returns-in_err-pass c s is slot =

@@ -1,6 +1,6 @@
 //! Frames, and what reading them may cost.
 
-ghost use Rattle.std.specs.Prelude.{◌≡◌, ◌+◌, ◌≤◌, ◌^◌, length, IfOk, IfErr};
+ghost use Rattle.std.specs.Prelude.{◌≡◌, ◌+◌, ◌-◌, ◌≤◌, ◌^◌, length, IfOk, IfErr};
 ghost use Rattle.ix_frame.specs.Segments.{IsFrame, segments};
 
 use crate::follow::struct_behind;
@@ -39,6 +39,13 @@ impl Budget {
         let count = LittleEndian::read_u32(frame.bytes) as u64 + 1;
         let table = 8 * (count / 2 + 1);
         Budget(2 * ((frame.bytes.len() as u64 - table) / 8) + 64)
+    }
+
+    /// More than any reading may cost.
+    pub fn endless() -> Budget
+        ensures { result ≡ 2 ^ 64 - 1 }
+    {
+        Budget(u64::MAX)
     }
 
     /// What is left.

@@ -11,6 +11,7 @@ mod frame;
 mod list;
 mod object;
 mod segment;
+mod sound;
 mod table;
 mod target;
 

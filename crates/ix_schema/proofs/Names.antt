@@ -97,4 +97,5 @@ no_field t ss n k f named lt is le =
     rw (there t n f lt is, none) at h
 
 pub no_struct_there : (t : List StructForm) (ss : List Struct) (n k : ℕ) → are_named t ss ≡ true → length t ≤ n → [] ≡ field_text ss n k
-no_struct_there t ss n k named le = let h = field_is t ss n k named in rw (slice_get_past t n le, slice_get_past {X = Text} [] k (omega arith)) at h
+no_struct_there t ss n zero named le = let h = field_is t ss n zero named in rw (slice_get_past t n le) at h
+no_struct_there t ss n (suc k) named le = let h = field_is t ss n (suc k) named in rw (slice_get_past t n le) at h

@@ -1,14 +1,4 @@
-pub mod Adding
-pub mod Agreeing
-pub mod Bare
-pub mod Bound
-pub mod ByTable
 pub mod Each
-pub mod Fitting
 pub mod Flags
-pub mod Longest
 pub mod Naming
-pub mod Root
-pub mod Tallied
-pub mod Walked
-pub mod Whole
+pub mod Said

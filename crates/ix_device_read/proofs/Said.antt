@@ -1,8 +1,9 @@
 -- What is said in the lists of a struct, one after the other.
 use Rattle.std.proofs.Common.{◌≡◌, ℕ, zero, suc, ◌+◌, ◌-◌, ◌<◌, ◌≤◌, List, [], ◌∷◌, length, refl, arith}
 use Rattle.ix_frame.specs.Objects.{element_of}
+use Rattle.ix_frame.specs.Sound.{sound_text_in}
 use Rattle.ix_frame.specs.Target.{Object, Elements}
-use Rattle.ix_schema.specs.Said.{each_said}
+use Rattle.ix_schema.specs.Said.{each_said, texts_said}
 
 -- the i-th struct of a list, and those after it
 pub said_next : {A : Type 0} (say : Object → A) (count : ℕ) (l : Elements) (i : ℕ) → i < count → each_said say (count - i) l i ≡ say (element_of l i) ∷ each_said say (count - (i + 1)) l (i + 1)
@@ -17,3 +18,12 @@ pub said_length : {A : Type 0} (say : Object → A) (count : ℕ) (l : Elements)
 unfolding each_said
 said_length say zero l i = refl
 said_length say (suc count) l i = let rest : length (each_said say count l (i + 1)) ≡ count = said_length say count l (i + 1) in omega arith
+
+-- the i-th text of a list, and those after it
+pub text_next : (count : ℕ) (l : Elements) (i : ℕ) → i < count → texts_said (count - i) l i ≡ sound_text_in l i ∷ texts_said (count - (i + 1)) l (i + 1)
+unfolding texts_said
+text_next count l i lt = let k : count - i ≡ suc (count - (i + 1)) = omega arith in rw k refl
+
+pub no_text : (count : ℕ) (l : Elements) (i : ℕ) → count ≤ i → texts_said (count - i) l i ≡ []
+unfolding texts_said
+no_text count l i le = let k : count - i ≡ 0 = omega arith in rw k refl

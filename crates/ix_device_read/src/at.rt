@@ -2,14 +2,15 @@
 
 ghost use Rattle.std.specs.Prelude.{◌≡◌, ◌<◌, ◌-◌, ◌%◌, ◌^◌, slice_index, length, map, IfOk};
 ghost use Rattle.std.specs.List.{AllByRecursion};
-ghost use Rattle.ix_frame.specs.Sound.{sound_elements, sound_list};
-ghost use Rattle.ix_schema.specs.Said.{said, each_said};
+ghost use Rattle.ix_frame.specs.Sound.{sound_elements, sound_list, sound_text};
+ghost use Rattle.ix_schema.specs.Said.{said, each_said, texts_said};
+ghost use Rattle.ix_message_read.specs.Tells.{flag_number};
 ghost use Rattle.ix_frame.specs.Objects.{u32_in, numbers_in};
 ghost use Rattle.ix_frame.specs.Views.{object_of};
 ghost use Rattle.ix_message.specs.Shape.{name, choice};
 ghost use Rattle.ix_message.specs.Names.{the_text, the_number};
 ghost use Rattle.ix_device_read.specs.Finish.{asked_at, below, known, each_alone, finish_at, finish_each};
-ghost use Rattle.ix_device_read.specs.Named.{limit_of};
+ghost use Rattle.ix_device_read.specs.Named.{limit_of, AllNamed};
 ghost use Rattle.ix_device_read.specs.Numbers.{name_text};
 ghost use Rattle.ix_device_read.specs.Views.{sizes_of, Meets, MeetsWith, kind_word, field_word};
 ghost use Rattle.ix_device_read.specs.declared.stop.Stop.TheVariants.{OutOfList};
@@ -58,11 +59,19 @@ impl<'a> At<'a> {
         ensures made { Meets (λ id. the_text (name_text ctx.now.names.now id)) result (asked_at (sizes_of ctx.now self.now.scope) walk.now self.now.kind (kind_word self.now.kind) (field_word self.now.kind field) name (u32_in (object_of self.now.o) field)) }
         ensures within { IfOk result (λ id. id < limit_of ctx.now) }
     {
-        let n = self.o.u32_at(field) as usize;
-        if n < ctx.strings.len() {
-            Ok(ctx.strings[n])
+        self.name_of(ctx, walk, field as usize, self.o.u32_at(field))
+    }
+
+    /// The name with this place in the string table.
+    fn name_of(&self, ctx: &Context<'_>, walk: &Walk, field: usize, n: u32) -> Result<NameId, Stop>
+        requires { self.now.kind < KINDS }
+        ensures made { Meets (λ id. the_text (name_text ctx.now.names.now id)) result (asked_at (sizes_of ctx.now self.now.scope) walk.now self.now.kind (kind_word self.now.kind) (field_word self.now.kind field) name n) }
+        ensures within { IfOk result (λ id. id < limit_of ctx.now) }
+    {
+        if (n as usize) < ctx.strings.len() {
+            Ok(ctx.strings[n as usize])
         } else {
-            Err(self.stop(walk, field as usize))
+            Err(self.stop(walk, field))
         }
     }
 
@@ -143,6 +152,117 @@ impl<'a> At<'a> {
                 Err(stop) => return Err(stop),
             };
             found.push(pin)?;
+        }
+        Ok(found)
+    }
+
+    /// The names that the list of numbers behind this pointer has, which is this field.
+    pub fn names(
+        &self,
+        ctx: &Context<'_>,
+        walk: &Walk,
+        slot: u32,
+        field: usize,
+    ) -> Result<Items<NameId>, Stop>
+        requires { self.now.kind < KINDS }
+        ensures made { Meets (map (λ id. the_text (name_text ctx.now.names.now id))) result (each_alone (asked_at (sizes_of ctx.now self.now.scope) walk.now self.now.kind (kind_word self.now.kind) (field_word self.now.kind field) name) (numbers_in (sound_list 4 (object_of self.now.o) slot))) }
+        ensures named { IfOk result (AllNamed (limit_of ctx.now)) }
+    {
+        let list = self.o.sound_numbers(slot);
+        let mut found = Items::with_capacity(ctx.alloc, list.len() as usize)?;
+        for i in 0..list.len() {
+            let id = match self.name_of(ctx, walk, field, list.at(i)) {
+                Ok(id) => id,
+                Err(stop) => return Err(stop),
+            };
+            found.push(id)?;
+        }
+        Ok(found)
+    }
+
+    /// The number, where it is below the length of its list.
+    fn index_of(&self, walk: &Walk, field: usize, limit: u32, n: u32) -> Result<u32, Stop>
+        requires { self.now.kind < KINDS }
+        ensures { Meets the_number result (below walk.now self.now.kind (kind_word self.now.kind) (field_word self.now.kind field) limit n) }
+    {
+        if n < limit {
+            Ok(n)
+        } else {
+            Err(self.stop(walk, field))
+        }
+    }
+
+    /// The numbers of the list behind this pointer, which is this field, where each is below the length of its list.
+    pub fn indexes(
+        &self,
+        ctx: &Context<'_>,
+        walk: &Walk,
+        slot: u32,
+        field: usize,
+        limit: u32,
+    ) -> Result<Items<u32>, Stop>
+        requires { self.now.kind < KINDS }
+        ensures { Meets (map the_number) result (each_alone (below walk.now self.now.kind (kind_word self.now.kind) (field_word self.now.kind field) limit) (numbers_in (sound_list 4 (object_of self.now.o) slot))) }
+    {
+        let list = self.o.sound_numbers(slot);
+        let mut found = Items::with_capacity(ctx.alloc, list.len() as usize)?;
+        for i in 0..list.len() {
+            let n = match self.index_of(walk, field, limit, list.at(i)) {
+                Ok(n) => n,
+                Err(stop) => return Err(stop),
+            };
+            found.push(n)?;
+        }
+        Ok(found)
+    }
+
+    /// How many numbers the list behind this pointer has.
+    pub fn number_count(&self, slot: u32) -> u32
+        ensures { result ≡ length (numbers_in (sound_list 4 (object_of self.now.o) slot)) }
+    {
+        self.o.sound_numbers(slot).len()
+    }
+
+    /// The Bool of this data field.
+    pub fn flag(&self, field: u32) -> bool
+        ensures { u32_in (object_of self.now.o) field % 2 ≡ flag_number result }
+    {
+        self.o.u32_at(field) % 2 == 1
+    }
+
+    /// The name that the text is.
+    #[tactic(auto, using(std::proofs::lemmas::Option::get_or_from_slice_get))]
+    fn text_of(&self, ctx: &Context<'_>, text: &str) -> Result<NameId, Stop>
+        ensures made { Meets (name_text ctx.now.names.now) result (known (sizes_of ctx.now self.now.scope) text.now) }
+        ensures within { IfOk result (λ id. id < limit_of ctx.now) }
+    {
+        match ctx.names.find(text) {
+            Some(id) => Ok(id),
+            None => Err(Stop::Unnamed),
+        }
+    }
+
+    /// The name that the text behind this pointer is.
+    pub fn text(&self, ctx: &Context<'_>, slot: u32) -> Result<NameId, Stop>
+        ensures made { Meets (name_text ctx.now.names.now) result (known (sizes_of ctx.now self.now.scope) (sound_text (object_of self.now.o) slot)) }
+        ensures within { IfOk result (λ id. id < limit_of ctx.now) }
+    {
+        self.text_of(ctx, self.o.sound_text(slot))
+    }
+
+    /// The names that the texts of the list behind this pointer are.
+    pub fn texts(&self, ctx: &Context<'_>, slot: u32) -> Result<Items<NameId>, Stop>
+        ensures made { Meets (map (name_text ctx.now.names.now)) result (each_alone (known (sizes_of ctx.now self.now.scope)) (texts_said (sound_list 6 (object_of self.now.o) slot).count (sound_list 6 (object_of self.now.o) slot) 0)) }
+        ensures named { IfOk result (AllNamed (limit_of ctx.now)) }
+    {
+        let list = self.o.sound_texts(slot);
+        let mut found = Items::with_capacity(ctx.alloc, list.len() as usize)?;
+        for i in 0..list.len() {
+            let id = match self.text_of(ctx, list.sound_at(i)) {
+                Ok(id) => id,
+                Err(stop) => return Err(stop),
+            };
+            found.push(id)?;
         }
         Ok(found)
     }

@@ -1,4 +1,4 @@
-//! Tiles.
+//! Tiles, tile wires and nodes.
 
 use crate::at::At;
 use crate::context::{Context, Scope};
@@ -6,7 +6,7 @@ use crate::stop::Stop;
 use crate::take::Take;
 use crate::walk::Walk;
 use ix_frame::Obj;
-use ix_rec::{Site, Tile};
+use ix_rec::{Node, Site, Tile, Wire};
 
 impl Take for Site {
     ghost use Rattle.ix_message.specs.Device.{site};
@@ -66,6 +66,52 @@ impl Take for Tile {
             row: at.number(2),
             col: at.number(3),
             sites,
+        })
+    }
+}
+
+impl Take for Wire {
+    ghost use Rattle.ix_message.specs.Device.{wire};
+    ghost use Rattle.ix_device_read.specs.Records.{wire_record};
+    ghost use Rattle.ix_device_read.specs.Named.{WireNamed};
+
+    ghost shape = { wire };
+
+    ghost record_by = { wire_record };
+
+    ghost named = { WireNamed };
+
+    #[tactic(auto, unfolding(ix_schema::specs::Said::said, ix_message::specs::Reading::row_at, crate::specs::Finish::finish_at, crate::specs::Finish::finish_row, crate::specs::Views::kind_word, crate::specs::Views::field_word))]
+    fn take(o: Obj<'_>, ctx: &Context<'_>, scope: Scope, walk: &mut Walk) -> Result<Wire, Stop> {
+        walk.begin(12);
+        let at = At { o, kind: 12, scope };
+        let tile = at.name(ctx, walk, 0)?;
+        let wire = at.name(ctx, walk, 1)?;
+        Ok(Wire {
+            tile,
+            wire,
+        })
+    }
+}
+
+impl Take for Node {
+    ghost use Rattle.ix_message.specs.Device.{node};
+    ghost use Rattle.ix_device_read.specs.Records.{node_record};
+    ghost use Rattle.ix_device_read.specs.Named.{NoNames};
+
+    ghost shape = { node };
+
+    ghost record_by = { node_record };
+
+    ghost named = { NoNames };
+
+    #[tactic(auto, unfolding(ix_schema::specs::Said::said, ix_message::specs::Reading::row_at, crate::specs::Finish::finish_at, crate::specs::Finish::finish_row, crate::specs::Views::kind_word, crate::specs::Views::field_word))]
+    fn take(o: Obj<'_>, ctx: &Context<'_>, scope: Scope, walk: &mut Walk) -> Result<Node, Stop> {
+        walk.begin(13);
+        let at = At { o, kind: 13, scope };
+        let wires = at.indexes(ctx, walk, 0, 0, ctx.wires)?;
+        Ok(Node {
+            wires,
         })
     }
 }

@@ -1,9 +1,11 @@
 -- What is said in the lists of a struct, one after the other.
 use Rattle.std.proofs.Common.{◌≡◌, ℕ, zero, suc, ◌+◌, ◌-◌, ◌<◌, ◌≤◌, List, [], ◌∷◌, length, refl, arith}
 use Rattle.ix_frame.specs.Objects.{element_of}
-use Rattle.ix_frame.specs.Sound.{sound_text_in}
+use Rattle.ix_frame.specs.Sound.{sound_elements, sound_text_in}
 use Rattle.ix_frame.specs.Target.{Object, Elements}
-use Rattle.ix_schema.specs.Said.{each_said, texts_said}
+use Rattle.ix_message.specs.Device.{tile_type, site_type_in_tile_type}
+use Rattle.ix_device_read.specs.Sizes.{site_type_count}
+use Rattle.ix_schema.specs.Said.{each_said, texts_said, said}
 
 -- the i-th struct of a list, and those after it
 pub said_next : {A : Type 0} (say : Object → A) (count : ℕ) (l : Elements) (i : ℕ) → i < count → each_said say (count - i) l i ≡ say (element_of l i) ∷ each_said say (count - (i + 1)) l (i + 1)
@@ -27,3 +29,8 @@ text_next count l i lt = let k : count - i ≡ suc (count - (i + 1)) = omega ari
 pub no_text : (count : ℕ) (l : Elements) (i : ℕ) → count ≤ i → texts_said (count - i) l i ≡ []
 unfolding texts_said
 no_text count l i le = let k : count - i ≡ 0 = omega arith in rw k refl
+
+-- how many types the sites of a tile type have
+pub types_of_sites : (o : Object) → site_type_count (said tile_type o) ≡ (sound_elements o 0).count
+unfolding said
+types_of_sites o = said_length (said site_type_in_tile_type) (sound_elements o 0).count (sound_elements o 0) 0

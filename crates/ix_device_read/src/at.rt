@@ -1,15 +1,16 @@
 //! A struct of a message that is being taken.
 
-ghost use Rattle.std.specs.Prelude.{◌≡◌, ◌<◌, ◌-◌, ◌%◌, ◌^◌, slice_index, length, map, IfOk};
+ghost use Rattle.std.specs.Prelude.{◌≡◌, ◌<◌, ◌-◌, ◌%◌, ◌^◌, slice_index, length, map, IfOk, if◌then◌else◌, Some, None};
+ghost use Rattle.ix_message.specs.Records.{IfThere};
 ghost use Rattle.std.specs.List.{AllByRecursion};
-ghost use Rattle.ix_frame.specs.Sound.{sound_elements, sound_list, sound_text};
+ghost use Rattle.ix_frame.specs.Sound.{sound_elements, sound_list, sound_struct, sound_text};
 ghost use Rattle.ix_schema.specs.Said.{said, each_said, texts_said};
 ghost use Rattle.ix_message_read.specs.Tells.{flag_number};
-ghost use Rattle.ix_frame.specs.Objects.{u32_in, numbers_in};
+ghost use Rattle.ix_frame.specs.Objects.{u32_in, numbers_in, has_pointer};
 ghost use Rattle.ix_frame.specs.Views.{object_of};
 ghost use Rattle.ix_message.specs.Shape.{name, choice};
-ghost use Rattle.ix_message.specs.Names.{the_text, the_number};
-ghost use Rattle.ix_device_read.specs.Finish.{asked_at, below, known, each_alone, finish_at, finish_each};
+ghost use Rattle.ix_message.specs.Names.{the_text, the_number, option_with};
+ghost use Rattle.ix_device_read.specs.Finish.{asked_at, below, known, each_alone, finish_at, finish_each, finish_option};
 ghost use Rattle.ix_device_read.specs.Named.{limit_of, AllNamed};
 ghost use Rattle.ix_device_read.specs.Numbers.{name_text};
 ghost use Rattle.ix_device_read.specs.Views.{sizes_of, Meets, MeetsWith, kind_word, field_word};
@@ -265,5 +266,39 @@ impl<'a> At<'a> {
             found.push(id)?;
         }
         Ok(found)
+    }
+
+    /// The struct behind this pointer, which stands within this scope.
+    pub fn one<T: Take>(
+        &self,
+        ctx: &Context<'_>,
+        slot: u32,
+        scope: Scope,
+        walk: &mut Walk,
+    ) -> Result<T, Stop>
+        ensures made { MeetsWith (T.record_by ctx.now.names.now) result walk.new (finish_at T.shape (sizes_of ctx.now scope) (said T.shape (sound_struct (object_of self.now.o) slot)) walk.old) }
+        ensures named { IfOk result (T.named (limit_of ctx.now)) }
+    {
+        T::take(self.o.sound_obj(slot), ctx, scope, walk)
+    }
+
+    /// The same of a struct that isn't there where its pointer is zero.
+    #[tactic(auto, unfolding(crate::specs::Finish::finish_option))]
+    pub fn option<T: Take>(
+        &self,
+        ctx: &Context<'_>,
+        slot: u32,
+        scope: Scope,
+        walk: &mut Walk,
+    ) -> Result<Option<T>, Stop>
+        ensures made { MeetsWith (option_with (T.record_by ctx.now.names.now)) result walk.new (finish_option (finish_at T.shape (sizes_of ctx.now scope)) (if has_pointer (object_of self.now.o) slot then Some (said T.shape (sound_struct (object_of self.now.o) slot)) else None) walk.old) }
+        ensures named { IfOk result (IfThere (T.named (limit_of ctx.now))) }
+    {
+        if self.o.has(slot) {
+            let one = self.one(ctx, slot, scope, walk)?;
+            Ok(Some(one))
+        } else {
+            Ok(None)
+        }
     }
 }

@@ -5,6 +5,7 @@ mod at;
 mod cell_map;
 mod choices;
 mod context;
+mod device;
 mod inversion;
 mod lut;
 mod package;

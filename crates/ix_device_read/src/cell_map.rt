@@ -20,15 +20,17 @@ impl Take for SiteTypeBelEntry {
     ghost named = { SiteTypeBelEntryNamed };
 
     #[tactic(auto, unfolding(ix_schema::specs::Said::said, ix_message::specs::Reading::row_at, crate::specs::Finish::finish_at, crate::specs::Finish::finish_row, crate::specs::Views::kind_word, crate::specs::Views::field_word))]
-    fn take(o: Obj<'_>, ctx: &Context<'_>, scope: Scope, walk: &mut Walk) -> Result<SiteTypeBelEntry, Stop> {
+    fn take(
+        o: Obj<'_>,
+        ctx: &Context<'_>,
+        scope: Scope,
+        walk: &mut Walk,
+    ) -> Result<SiteTypeBelEntry, Stop> {
         walk.begin(14);
         let at = At { o, kind: 14, scope };
         let site_type = at.name(ctx, walk, 0)?;
         let bels = at.names(ctx, walk, 0, 1)?;
-        Ok(SiteTypeBelEntry {
-            site_type,
-            bels,
-        })
+        Ok(SiteTypeBelEntry { site_type, bels })
     }
 }
 
@@ -44,15 +46,17 @@ impl Take for CellBelPinEntry {
     ghost named = { CellBelPinEntryNamed };
 
     #[tactic(auto, unfolding(ix_schema::specs::Said::said, ix_message::specs::Reading::row_at, crate::specs::Finish::finish_at, crate::specs::Finish::finish_row, crate::specs::Views::kind_word, crate::specs::Views::field_word))]
-    fn take(o: Obj<'_>, ctx: &Context<'_>, scope: Scope, walk: &mut Walk) -> Result<CellBelPinEntry, Stop> {
+    fn take(
+        o: Obj<'_>,
+        ctx: &Context<'_>,
+        scope: Scope,
+        walk: &mut Walk,
+    ) -> Result<CellBelPinEntry, Stop> {
         walk.begin(15);
         let at = At { o, kind: 15, scope };
         let cell_pin = at.name(ctx, walk, 0)?;
         let bel_pin = at.name(ctx, walk, 1)?;
-        Ok(CellBelPinEntry {
-            cell_pin,
-            bel_pin,
-        })
+        Ok(CellBelPinEntry { cell_pin, bel_pin })
     }
 }
 
@@ -68,7 +72,12 @@ impl Take for CommonCellBelPinMaps {
     ghost named = { CommonCellBelPinMapsNamed };
 
     #[tactic(auto, unfolding(ix_schema::specs::Said::said, ix_message::specs::Reading::row_at, crate::specs::Finish::finish_at, crate::specs::Finish::finish_row, crate::specs::Views::kind_word, crate::specs::Views::field_word))]
-    fn take(o: Obj<'_>, ctx: &Context<'_>, scope: Scope, walk: &mut Walk) -> Result<CommonCellBelPinMaps, Stop> {
+    fn take(
+        o: Obj<'_>,
+        ctx: &Context<'_>,
+        scope: Scope,
+        walk: &mut Walk,
+    ) -> Result<CommonCellBelPinMaps, Stop> {
         walk.begin(16);
         let at = At { o, kind: 16, scope };
         let inner = Scope {
@@ -78,10 +87,7 @@ impl Take for CommonCellBelPinMaps {
         };
         let site_types = at.list(ctx, 0, inner, walk)?;
         let pins = at.list(ctx, 1, inner, walk)?;
-        Ok(CommonCellBelPinMaps {
-            site_types,
-            pins,
-        })
+        Ok(CommonCellBelPinMaps { site_types, pins })
     }
 }
 
@@ -97,7 +103,12 @@ impl Take for CellBelMapping {
     ghost named = { CellBelMappingNamed };
 
     #[tactic(auto, unfolding(ix_schema::specs::Said::said, ix_message::specs::Reading::row_at, crate::specs::Finish::finish_at, crate::specs::Finish::finish_row, crate::specs::Views::kind_word, crate::specs::Views::field_word))]
-    fn take(o: Obj<'_>, ctx: &Context<'_>, scope: Scope, walk: &mut Walk) -> Result<CellBelMapping, Stop> {
+    fn take(
+        o: Obj<'_>,
+        ctx: &Context<'_>,
+        scope: Scope,
+        walk: &mut Walk,
+    ) -> Result<CellBelMapping, Stop> {
         walk.begin(17);
         let at = At { o, kind: 17, scope };
         let cell = at.name(ctx, walk, 0)?;
@@ -107,9 +118,6 @@ impl Take for CellBelMapping {
             tile_type: 0,
         };
         let common_pins = at.list(ctx, 0, inner, walk)?;
-        Ok(CellBelMapping {
-            cell,
-            common_pins,
-        })
+        Ok(CellBelMapping { cell, common_pins })
     }
 }

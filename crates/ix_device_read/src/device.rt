@@ -35,7 +35,12 @@ impl Take for DeviceRec {
     ghost named = { DeviceNamed };
 
     #[tactic(auto, unfolding(ix_schema::specs::Said::said, ix_message::specs::Reading::row_at, crate::specs::Finish::finish_at, crate::specs::Finish::finish_row, crate::specs::Views::kind_word, crate::specs::Views::field_word))]
-    fn take(o: Obj<'_>, ctx: &Context<'_>, scope: Scope, walk: &mut Walk) -> Result<DeviceRec, Stop> {
+    fn take(
+        o: Obj<'_>,
+        ctx: &Context<'_>,
+        scope: Scope,
+        walk: &mut Walk,
+    ) -> Result<DeviceRec, Stop> {
         walk.begin(28);
         let at = At { o, kind: 28, scope };
         let inner = Scope {
@@ -82,7 +87,6 @@ fn site_type_counts(alloc: Global, list: List<'_>) -> Result<Items<u32>, Memory>
 }
 
 /// What the numbers of a device are asked against.
-#[tactic(auto, unfolding(ix_schema::specs::Said::said))]
 fn device_context<'n>(
     alloc: Global,
     names: &'n Names,

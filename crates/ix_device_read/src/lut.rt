@@ -78,7 +78,12 @@ impl Take for LutElement {
     ghost named = { LutElementNamed };
 
     #[tactic(auto, unfolding(ix_schema::specs::Said::said, ix_message::specs::Reading::row_at, crate::specs::Finish::finish_at, crate::specs::Finish::finish_row, crate::specs::Views::kind_word, crate::specs::Views::field_word))]
-    fn take(o: Obj<'_>, ctx: &Context<'_>, scope: Scope, walk: &mut Walk) -> Result<LutElement, Stop> {
+    fn take(
+        o: Obj<'_>,
+        ctx: &Context<'_>,
+        scope: Scope,
+        walk: &mut Walk,
+    ) -> Result<LutElement, Stop> {
         walk.begin(25);
         let at = At { o, kind: 25, scope };
         let width = at.number(0);
@@ -88,10 +93,7 @@ impl Take for LutElement {
             tile_type: 0,
         };
         let bels = at.list(ctx, 0, inner, walk)?;
-        Ok(LutElement {
-            width,
-            bels,
-        })
+        Ok(LutElement { width, bels })
     }
 }
 
@@ -107,7 +109,12 @@ impl Take for SiteTypeLutElements {
     ghost named = { SiteTypeLutElementsNamed };
 
     #[tactic(auto, unfolding(ix_schema::specs::Said::said, ix_message::specs::Reading::row_at, crate::specs::Finish::finish_at, crate::specs::Finish::finish_row, crate::specs::Views::kind_word, crate::specs::Views::field_word))]
-    fn take(o: Obj<'_>, ctx: &Context<'_>, scope: Scope, walk: &mut Walk) -> Result<SiteTypeLutElements, Stop> {
+    fn take(
+        o: Obj<'_>,
+        ctx: &Context<'_>,
+        scope: Scope,
+        walk: &mut Walk,
+    ) -> Result<SiteTypeLutElements, Stop> {
         walk.begin(26);
         let at = At { o, kind: 26, scope };
         let inner = Scope {
@@ -117,10 +124,7 @@ impl Take for SiteTypeLutElements {
         };
         let site = at.text(ctx, 0)?;
         let luts = at.list(ctx, 1, inner, walk)?;
-        Ok(SiteTypeLutElements {
-            site,
-            luts,
-        })
+        Ok(SiteTypeLutElements { site, luts })
     }
 }
 
@@ -136,7 +140,12 @@ impl Take for LutDefinitions {
     ghost named = { LutDefinitionsNamed };
 
     #[tactic(auto, unfolding(ix_schema::specs::Said::said, ix_message::specs::Reading::row_at, crate::specs::Finish::finish_at, crate::specs::Finish::finish_row, crate::specs::Views::kind_word, crate::specs::Views::field_word))]
-    fn take(o: Obj<'_>, ctx: &Context<'_>, scope: Scope, walk: &mut Walk) -> Result<LutDefinitions, Stop> {
+    fn take(
+        o: Obj<'_>,
+        ctx: &Context<'_>,
+        scope: Scope,
+        walk: &mut Walk,
+    ) -> Result<LutDefinitions, Stop> {
         walk.begin(27);
         let at = At { o, kind: 27, scope };
         let inner = Scope {

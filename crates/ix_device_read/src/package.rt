@@ -21,15 +21,17 @@ impl Take for PackagePin {
     ghost named = { PackagePinNamed };
 
     #[tactic(auto, unfolding(ix_schema::specs::Said::said, ix_message::specs::Reading::row_at, crate::specs::Finish::finish_at, crate::specs::Finish::finish_row, crate::specs::Views::kind_word, crate::specs::Views::field_word))]
-    fn take(o: Obj<'_>, ctx: &Context<'_>, scope: Scope, walk: &mut Walk) -> Result<PackagePin, Stop> {
+    fn take(
+        o: Obj<'_>,
+        ctx: &Context<'_>,
+        scope: Scope,
+        walk: &mut Walk,
+    ) -> Result<PackagePin, Stop> {
         walk.begin(18);
         let at = At { o, kind: 18, scope };
         let package_pin = at.name(ctx, walk, 0)?;
         let site = package_pin_site(o, ctx, scope, walk)?;
-        Ok(PackagePin {
-            package_pin,
-            site,
-        })
+        Ok(PackagePin { package_pin, site })
     }
 }
 
@@ -55,10 +57,7 @@ impl Take for Package {
             tile_type: 0,
         };
         let package_pins = at.list(ctx, 0, inner, walk)?;
-        Ok(Package {
-            name,
-            package_pins,
-        })
+        Ok(Package { name, package_pins })
     }
 }
 
@@ -74,7 +73,12 @@ impl Take for SiteConstantSource {
     ghost named = { SiteConstantSourceNamed };
 
     #[tactic(auto, unfolding(ix_schema::specs::Said::said, ix_message::specs::Reading::row_at, crate::specs::Finish::finish_at, crate::specs::Finish::finish_row, crate::specs::Views::kind_word, crate::specs::Views::field_word))]
-    fn take(o: Obj<'_>, ctx: &Context<'_>, scope: Scope, walk: &mut Walk) -> Result<SiteConstantSource, Stop> {
+    fn take(
+        o: Obj<'_>,
+        ctx: &Context<'_>,
+        scope: Scope,
+        walk: &mut Walk,
+    ) -> Result<SiteConstantSource, Stop> {
         walk.begin(20);
         let at = At { o, kind: 20, scope };
         let site_type = at.name(ctx, walk, 0)?;
@@ -102,7 +106,12 @@ impl Take for NodeConstantSource {
     ghost named = { NodeConstantSourceNamed };
 
     #[tactic(auto, unfolding(ix_schema::specs::Said::said, ix_message::specs::Reading::row_at, crate::specs::Finish::finish_at, crate::specs::Finish::finish_row, crate::specs::Views::kind_word, crate::specs::Views::field_word))]
-    fn take(o: Obj<'_>, ctx: &Context<'_>, scope: Scope, walk: &mut Walk) -> Result<NodeConstantSource, Stop> {
+    fn take(
+        o: Obj<'_>,
+        ctx: &Context<'_>,
+        scope: Scope,
+        walk: &mut Walk,
+    ) -> Result<NodeConstantSource, Stop> {
         walk.begin(21);
         let at = At { o, kind: 21, scope };
         let tile = at.name(ctx, walk, 0)?;
@@ -128,7 +137,12 @@ impl Take for Constants {
     ghost named = { ConstantsNamed };
 
     #[tactic(auto, unfolding(ix_schema::specs::Said::said, ix_message::specs::Reading::row_at, crate::specs::Finish::finish_at, crate::specs::Finish::finish_row, crate::specs::Views::kind_word, crate::specs::Views::field_word))]
-    fn take(o: Obj<'_>, ctx: &Context<'_>, scope: Scope, walk: &mut Walk) -> Result<Constants, Stop> {
+    fn take(
+        o: Obj<'_>,
+        ctx: &Context<'_>,
+        scope: Scope,
+        walk: &mut Walk,
+    ) -> Result<Constants, Stop> {
         walk.begin(22);
         let at = At { o, kind: 22, scope };
         let gnd_cell_type = at.name(ctx, walk, 0)?;

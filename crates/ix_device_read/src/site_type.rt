@@ -24,11 +24,7 @@ impl Take for BelPin {
     #[tactic(auto, unfolding(ix_schema::specs::Said::said, ix_message::specs::Reading::row_at, crate::specs::Finish::finish_at, crate::specs::Finish::finish_row, crate::specs::Views::kind_word, crate::specs::Views::field_word))]
     fn take(o: Obj<'_>, ctx: &Context<'_>, scope: Scope, walk: &mut Walk) -> Result<BelPin, Stop> {
         walk.begin(0);
-        let at = At {
-            o,
-            kind: 0,
-            scope,
-        };
+        let at = At { o, kind: 0, scope };
         let name = at.name(ctx, walk, 0)?;
         let dir = at.choice(ctx, walk, 1)?;
         let bel = at.name(ctx, walk, 2)?;
@@ -50,11 +46,7 @@ impl Take for SitePin {
     #[tactic(auto, unfolding(ix_schema::specs::Said::said, ix_message::specs::Reading::row_at, crate::specs::Finish::finish_at, crate::specs::Finish::finish_row, crate::specs::Views::kind_word, crate::specs::Views::field_word))]
     fn take(o: Obj<'_>, ctx: &Context<'_>, scope: Scope, walk: &mut Walk) -> Result<SitePin, Stop> {
         walk.begin(1);
-        let at = At {
-            o,
-            kind: 1,
-            scope,
-        };
+        let at = At { o, kind: 1, scope };
         let name = at.name(ctx, walk, 0)?;
         let dir = at.choice(ctx, walk, 1)?;
         let belpin = at.index(walk, 2, scope.bel_pins)?;
@@ -80,11 +72,7 @@ impl Take for SitePip {
     #[tactic(auto, unfolding(ix_schema::specs::Said::said, ix_message::specs::Reading::row_at, crate::specs::Finish::finish_at, crate::specs::Finish::finish_row, crate::specs::Views::kind_word, crate::specs::Views::field_word))]
     fn take(o: Obj<'_>, ctx: &Context<'_>, scope: Scope, walk: &mut Walk) -> Result<SitePip, Stop> {
         walk.begin(3);
-        let at = At {
-            o,
-            kind: 3,
-            scope,
-        };
+        let at = At { o, kind: 3, scope };
         let inpin = at.index(walk, 0, scope.bel_pins)?;
         let outpin = at.index(walk, 1, scope.bel_pins)?;
         Ok(SitePip {
@@ -132,7 +120,12 @@ impl Take for SiteWire {
     ghost named = { SiteWireNamed };
 
     #[tactic(auto, unfolding(ix_schema::specs::Said::said, ix_message::specs::Reading::row_at, crate::specs::Finish::finish_at, crate::specs::Finish::finish_row, crate::specs::Views::kind_word, crate::specs::Views::field_word))]
-    fn take(o: Obj<'_>, ctx: &Context<'_>, scope: Scope, walk: &mut Walk) -> Result<SiteWire, Stop> {
+    fn take(
+        o: Obj<'_>,
+        ctx: &Context<'_>,
+        scope: Scope,
+        walk: &mut Walk,
+    ) -> Result<SiteWire, Stop> {
         walk.begin(4);
         let at = At { o, kind: 4, scope };
         let name = at.name(ctx, walk, 0)?;
@@ -153,7 +146,12 @@ impl Take for SiteType {
     ghost named = { SiteTypeNamed };
 
     #[tactic(auto, unfolding(ix_schema::specs::Said::said, ix_message::specs::Reading::row_at, crate::specs::Finish::finish_at, crate::specs::Finish::finish_row, crate::specs::Views::kind_word, crate::specs::Views::field_word))]
-    fn take(o: Obj<'_>, ctx: &Context<'_>, scope: Scope, walk: &mut Walk) -> Result<SiteType, Stop> {
+    fn take(
+        o: Obj<'_>,
+        ctx: &Context<'_>,
+        scope: Scope,
+        walk: &mut Walk,
+    ) -> Result<SiteType, Stop> {
         walk.begin(5);
         let at = At { o, kind: 5, scope };
         let name = at.name(ctx, walk, 0)?;

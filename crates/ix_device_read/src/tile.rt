@@ -22,11 +22,7 @@ impl Take for Site {
     #[tactic(auto, unfolding(ix_schema::specs::Said::said, ix_message::specs::Reading::row_at, crate::specs::Finish::finish_at, crate::specs::Finish::finish_row, crate::specs::Views::kind_word, crate::specs::Views::field_word))]
     fn take(o: Obj<'_>, ctx: &Context<'_>, scope: Scope, walk: &mut Walk) -> Result<Site, Stop> {
         walk.begin(10);
-        let at = At {
-            o,
-            kind: 10,
-            scope,
-        };
+        let at = At { o, kind: 10, scope };
         let name = at.name(ctx, walk, 0)?;
         let ty = at.index(walk, 1, ctx.site_types_of_tile(scope))?;
         Ok(Site { name, ty })
@@ -47,11 +43,7 @@ impl Take for Tile {
     #[tactic(auto, unfolding(ix_schema::specs::Said::said, ix_message::specs::Reading::row_at, crate::specs::Finish::finish_at, crate::specs::Finish::finish_row, crate::specs::Views::kind_word, crate::specs::Views::field_word))]
     fn take(o: Obj<'_>, ctx: &Context<'_>, scope: Scope, walk: &mut Walk) -> Result<Tile, Stop> {
         walk.begin(11);
-        let at = At {
-            o,
-            kind: 11,
-            scope,
-        };
+        let at = At { o, kind: 11, scope };
         let name = at.name(ctx, walk, 0)?;
         let ty = at.index(walk, 1, ctx.tile_type_count())?;
         let inner = Scope {
@@ -87,10 +79,7 @@ impl Take for Wire {
         let at = At { o, kind: 12, scope };
         let tile = at.name(ctx, walk, 0)?;
         let wire = at.name(ctx, walk, 1)?;
-        Ok(Wire {
-            tile,
-            wire,
-        })
+        Ok(Wire { tile, wire })
     }
 }
 
@@ -110,8 +99,6 @@ impl Take for Node {
         walk.begin(13);
         let at = At { o, kind: 13, scope };
         let wires = at.indexes(ctx, walk, 0, 0, ctx.wires)?;
-        Ok(Node {
-            wires,
-        })
+        Ok(Node { wires })
     }
 }

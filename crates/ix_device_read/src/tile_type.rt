@@ -6,7 +6,7 @@ use crate::stop::Stop;
 use crate::take::Take;
 use crate::walk::Walk;
 use ix_frame::Obj;
-use ix_num::{SiteTypeId};
+use ix_num::SiteTypeId;
 use ix_rec::{Pip, SiteTypeInTileType, TileType, WireConstantSources};
 
 impl Take for SiteTypeInTileType {
@@ -21,7 +21,12 @@ impl Take for SiteTypeInTileType {
     ghost named = { SiteTypeInTileTypeNamed };
 
     #[tactic(auto, unfolding(ix_schema::specs::Said::said, ix_message::specs::Reading::row_at, crate::specs::Finish::finish_at, crate::specs::Finish::finish_row, crate::specs::Views::kind_word, crate::specs::Views::field_word))]
-    fn take(o: Obj<'_>, ctx: &Context<'_>, scope: Scope, walk: &mut Walk) -> Result<SiteTypeInTileType, Stop> {
+    fn take(
+        o: Obj<'_>,
+        ctx: &Context<'_>,
+        scope: Scope,
+        walk: &mut Walk,
+    ) -> Result<SiteTypeInTileType, Stop> {
         walk.begin(6);
         let at = At { o, kind: 6, scope };
         let primary_type = at.index(walk, 0, ctx.site_types)?;
@@ -73,15 +78,17 @@ impl Take for WireConstantSources {
     ghost named = { NoNames };
 
     #[tactic(auto, unfolding(ix_schema::specs::Said::said, ix_message::specs::Reading::row_at, crate::specs::Finish::finish_at, crate::specs::Finish::finish_row, crate::specs::Views::kind_word, crate::specs::Views::field_word))]
-    fn take(o: Obj<'_>, ctx: &Context<'_>, scope: Scope, walk: &mut Walk) -> Result<WireConstantSources, Stop> {
+    fn take(
+        o: Obj<'_>,
+        ctx: &Context<'_>,
+        scope: Scope,
+        walk: &mut Walk,
+    ) -> Result<WireConstantSources, Stop> {
         walk.begin(8);
         let at = At { o, kind: 8, scope };
         let constant = at.choice(ctx, walk, 0)?;
         let wires = at.indexes(ctx, walk, 0, 1, scope.tile_wires)?;
-        Ok(WireConstantSources {
-            constant,
-            wires,
-        })
+        Ok(WireConstantSources { constant, wires })
     }
 }
 
@@ -97,7 +104,12 @@ impl Take for TileType {
     ghost named = { TileTypeNamed };
 
     #[tactic(auto, unfolding(ix_schema::specs::Said::said, ix_message::specs::Reading::row_at, crate::specs::Finish::finish_at, crate::specs::Finish::finish_row, crate::specs::Views::kind_word, crate::specs::Views::field_word))]
-    fn take(o: Obj<'_>, ctx: &Context<'_>, scope: Scope, walk: &mut Walk) -> Result<TileType, Stop> {
+    fn take(
+        o: Obj<'_>,
+        ctx: &Context<'_>,
+        scope: Scope,
+        walk: &mut Walk,
+    ) -> Result<TileType, Stop> {
         walk.begin(9);
         let at = At { o, kind: 9, scope };
         let name = at.name(ctx, walk, 0)?;

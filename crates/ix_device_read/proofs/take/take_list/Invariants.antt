@@ -11,6 +11,6 @@ use Rattle.ix_device_read.proofs.take.take_list.Given as goal
 abbrev pub invariant-loop-i : goal.invariant-loop-i
 invariant-loop-i g l = record {
   is : behind_front (map (g.T.Take.record_by l.ctx.names.now) l.found) (finish_each (finish_at g.T.Take.shape (sizes_of l.ctx l.scope)) (each_said (said g.T.Take.shape) ((elements_of l.l).count - l.i) (elements_of l.l) l.i) l.walk)
-    ≡ finish_each (finish_at g.T.Take.shape (sizes_of l.ctx l.scope)) (each_said (said g.T.Take.shape) (elements_of l.l).count (elements_of l.l) 0) l.fn.walk;
+      ≡ finish_each (finish_at g.T.Take.shape (sizes_of l.ctx l.scope)) (each_said (said g.T.Take.shape) (elements_of l.l).count (elements_of l.l) 0) l.fn.walk;
   named : AllByRecursion (g.T.Take.named (limit_of l.ctx)) l.found;
 }

@@ -11,6 +11,6 @@ use Rattle.ix_device_read.proofs.at.At.texts.Given as goal
 abbrev pub invariant-loop-i : goal.invariant-loop-i
 invariant-loop-i l = record {
   is : behind_some (map (name_text l.ctx.names.now) l.found) (each_alone (known (sizes_of l.ctx l.self.scope)) (texts_said ((text_elements l.list).count - l.i) (text_elements l.list) l.i))
-    ≡ each_alone (known (sizes_of l.ctx l.self.scope)) (texts_said (text_elements l.list).count (text_elements l.list) 0);
+      ≡ each_alone (known (sizes_of l.ctx l.self.scope)) (texts_said (text_elements l.list).count (text_elements l.list) 0);
   named : AllNamed (limit_of l.ctx) l.found;
 }

@@ -7,6 +7,7 @@ mod choices;
 mod context;
 mod device;
 mod inversion;
+mod laws;
 mod lut;
 mod package;
 mod package_pin_site;
@@ -16,3 +17,5 @@ mod take;
 mod tile;
 mod tile_type;
 mod walk;
+
+pub use laws::{files_read_as_their_segments, finishing_is_reading};

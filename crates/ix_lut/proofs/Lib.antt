@@ -1,0 +1,10 @@
+pub mod Bits
+pub mod Spelling
+pub mod Spreading
+pub mod Words
+pub mod Reading
+pub mod Pigeons
+pub mod Tying
+pub mod ForcedWords
+pub mod Filling
+pub mod Masking

@@ -1,13 +1,17 @@
 pub mod Admitting
 pub mod Differing
+pub mod ElementsFit
 pub mod FilledTables
 pub mod FirstMaps
 pub mod FirstPlaces
 pub mod Inside
 pub mod LineLemmas
 pub mod Listings
+pub mod NumberedLemmas
+pub mod Numbering
 pub mod OptionLemmas
 pub mod PlaceLemmas
+pub mod ShapeLemmas
 pub mod SiteLemmas
 pub mod SitePipLemmas
 pub mod SourceLemmas

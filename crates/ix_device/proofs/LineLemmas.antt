@@ -12,7 +12,8 @@ use Rattle.ix_rec.specs.declared.device.SiteType.{SiteType}
 use Rattle.ix_rec.specs.declared.device.LutBel.{LutBel}
 use Rattle.ix_rec.specs.declared.device.LutElement.{LutElement}
 use Rattle.ix_device.specs.Elements.{differ, distinct, present, input_lines, has_own_lines, is_usable}
-use Rattle.ix_device.specs.Pins.{line_in, with_line, with_lines, AreOwnLines}
+use Rattle.ix_device.specs.Pins.{line_in, AreOwnLines}
+use Rattle.ix_device.specs.Shapes.{with_line, with_lines}
 use Rattle.ix_device.proofs.Walks.{take_next}
 use Rattle.ix_device.proofs.WireLemmas.{nat_eq-swap}
 
@@ -34,7 +35,7 @@ has lines x = list_any (nat_eq x) lines
 
 -- What has the lines and one more.
 
-has-with_line : (lines : List ℕ) (x y : ℕ) → has (with_line lines x) y ≡ (has lines y || nat_eq y x)
+pub has-with_line : (lines : List ℕ) (x y : ℕ) → has (with_line lines x) y ≡ (has lines y || nat_eq y x)
 has-with_line lines x y = by (has lines x) refl
   where
     known : has lines x ≡ true → (b : Bool) → nat_eq y x ≡ b → has lines y ≡ (has lines y || b)
@@ -86,21 +87,21 @@ counted_from (x ∷ rest) have done h same =
     (λ y. has-with_line have x y ∙ ap (λ b. b || nat_eq y x) (same y) ∙ ap (λ b. has done y || b) (sym (or-false (nat_eq y x))) ∙ sym (list_any-append (nat_eq y) done (x ∷ [])))
     ∙ ap (λ l. length (distinct l)) (append_assoc done (x ∷ []) rest)
 
-counted : (xs : List ℕ) → length (with_lines [] xs) ≡ length (distinct xs)
+pub counted : (xs : List ℕ) → length (with_lines [] xs) ≡ length (distinct xs)
 counted xs = counted_from xs [] [] refl (λ y. refl)
 
 pub with_lines-append : (lines xs ys : List ℕ) → with_lines lines (xs ++ ys) ≡ with_lines (with_lines lines xs) ys
 with_lines-append lines [] ys = refl
 with_lines-append lines (x ∷ xs) ys = with_lines-append (with_line lines x) xs ys
 
-grows : (lines xs : List ℕ) → length lines ≤ length (with_lines lines xs)
+pub grows : (lines xs : List ℕ) → length lines ≤ length (with_lines lines xs)
 grows lines [] = omega arith
 grows lines (x ∷ xs) =
     let one = length-with_line lines x in
     let rest = grows (with_line lines x) xs in
     omega (arith, one, rest)
 
-more_after : (xs ys : List ℕ) → length (distinct xs) ≤ length (distinct (xs ++ ys))
+pub more_after : (xs ys : List ℕ) → length (distinct xs) ≤ length (distinct (xs ++ ys))
 more_after xs ys =
     let before = counted xs in
     let all = counted (xs ++ ys) in

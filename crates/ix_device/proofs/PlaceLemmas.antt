@@ -117,7 +117,7 @@ same_elements entries elements elements' table same are = record {
 
 module _ (entries : List SiteTypeLutElements) (i : ℕ) (e : SiteTypeLutElements) (at_i : slice_get entries i ≡ Some e) where
   -- the elements of the first entries, and the first of the next entry
-  abbrev so_far : ℕ → ℕ → List LutElement
+  abbrev pub so_far : ℕ → ℕ → List LutElement
   so_far k ty = elements_for ty (take i entries) ++ (if nat_eq e.site ty then take k e.luts else [])
 
   pub elements_next : (ty : ℕ) → elements_for ty (take (i + 1) entries) ≡ elements_for ty (take i entries) ++ (if nat_eq e.site ty then e.luts else [])

@@ -15,34 +15,34 @@ use Rattle.ix_device.proofs.FirstPlaces.{position-push, is_some_position, one_mo
 use Rattle.ix_device.proofs.Differing.{nat_eq_sym}
 
 -- every field that is asked fits
-abbrev all_fit : List Step → Bool
+abbrev pub all_fit : List Step → Bool
 all_fit [] = true
 all_fit (begun kind ∷ rest) = all_fit rest
 all_fit (asked kind field fit ∷ rest) = fit && all_fit rest
 
-fits_none : (before steps : List Step) → first_unfit before steps ≡ None → all_fit steps ≡ true
+pub fits_none : (before steps : List Step) → first_unfit before steps ≡ None → all_fit steps ≡ true
 unfolding first_unfit
 fits_none before [] h = refl
 fits_none before (begun kind ∷ rest) h = fits_none (before ++ begun kind ∷ []) rest h
 fits_none before (asked kind field true ∷ rest) h = fits_none before rest h
 fits_none before (asked kind field false ∷ rest) h = absurd (none-some _ (sym h))
 
-all_fit_append : (xs ys : List Step) → all_fit (xs ++ ys) ≡ (all_fit xs && all_fit ys)
+pub all_fit_append : (xs ys : List Step) → all_fit (xs ++ ys) ≡ (all_fit xs && all_fit ys)
 all_fit_append [] ys = refl
 all_fit_append (begun kind ∷ xs) ys = all_fit_append xs ys
 all_fit_append (asked kind field true ∷ xs) ys = all_fit_append xs ys
 all_fit_append (asked kind field false ∷ xs) ys = refl
 
-and_left : (a b : Bool) → (a && b) ≡ true → a ≡ true
+pub and_left : (a b : Bool) → (a && b) ≡ true → a ≡ true
 and_left true b h = refl
 and_left false b h = h
 
-and_right : (a b : Bool) → (a && b) ≡ true → b ≡ true
+pub and_right : (a b : Bool) → (a && b) ≡ true → b ≡ true
 and_right true b h = h
 and_right false b h = absurd (true≢false (sym h))
 
 -- what was asked of an item, by those before it, fits
-by_earlier_fits : {A : Type 0} (ask : List A → A → List Step) (before xs : List A) (k : ℕ) (x : A) → slice_get xs k ≡ Some x → all_fit (by_earlier ask before xs) ≡ true → all_fit (ask (before ++ take k xs) x) ≡ true
+pub by_earlier_fits : {A : Type 0} (ask : List A → A → List Step) (before xs : List A) (k : ℕ) (x : A) → slice_get xs k ≡ Some x → all_fit (by_earlier ask before xs) ≡ true → all_fit (ask (before ++ take k xs) x) ≡ true
 unfolding by_earlier
 by_earlier_fits ask before [] k x at h = absurd (none-some x at)
 by_earlier_fits ask before (y ∷ ys) zero x at h =
@@ -51,7 +51,7 @@ by_earlier_fits ask before (y ∷ ys) (suc k) x at h =
     ap (λ l. all_fit (ask l x)) (sym (append_assoc before (y ∷ []) (take k ys)))
     ∙ by_earlier_fits ask (before ++ y ∷ []) ys k x at (and_right (all_fit (ask before y)) (all_fit (by_earlier ask (before ++ y ∷ []) ys)) (sym (all_fit_append (ask before y) (by_earlier ask (before ++ y ∷ []) ys)) ∙ h))
 
-no_rule : (rule : Rule) (o : Option Item) (rest : Option (Rule × Item)) → later_rule rule o rest ≡ None → o ≡ None
+pub no_rule : (rule : Rule) (o : Option Item) (rest : Option (Rule × Item)) → later_rule rule o rest ≡ None → o ≡ None
 no_rule rule None rest h = refl
 no_rule rule (Some item) rest h = absurd (none-some _ (sym h))
 
@@ -71,7 +71,7 @@ types_fit rec h =
     and_left (all_fit a) (all_fit b) (sym (all_fit_append a b) ∙ ab)
 
 -- the first place stays where the list goes on
-place_stays : {A : Type 0} (p : A → Bool) (xs ys : List A) (k : ℕ) → position p xs ≡ Some k → position p (xs ++ ys) ≡ Some k
+pub place_stays : {A : Type 0} (p : A → Bool) (xs ys : List A) (k : ℕ) → position p xs ≡ Some k → position p (xs ++ ys) ≡ Some k
 place_stays p xs [] k h = ap (position p) (append-nil xs) ∙ h
 place_stays p xs (y ∷ ys) k h = ap (position p) (sym (append_assoc xs (y ∷ []) ys)) ∙ place_stays p (xs ++ y ∷ []) ys k (position-push p xs y ∙ ap (λ o. or_later o (p y) (length xs)) h)
 

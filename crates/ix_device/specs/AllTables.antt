@@ -11,6 +11,7 @@ use Rattle.ix_device.specs.Elements.{lut_inputs_of}
 use Rattle.ix_device.specs.Sources.{has_constant}
 use Rattle.ix_device.specs.Tables.{AreSites}
 use Rattle.ix_device.specs.TypeTables.{AreAllTypeTables}
+use Rattle.ix_device.specs.Numbered.{AreNumbered}
 use Rattle.ix_device.specs.Listed.{AreListings}
 
 pub record AreTables (rec : DeviceRec) (t : Tables) : Type 0 where
@@ -22,6 +23,7 @@ pub record AreTables (rec : DeviceRec) (t : Tables) : Type 0 where
   pub wires : (k : ℕ) (ty : TileType) → slice_get rec.tile_type_list k ≡ Some ty → (name : ℕ) → value_at t.wires (key k 0 name) ≡ wire_of_type name ty
   pub types : AreAllTypeTables rec t.types
   pub lut_types : (cell : ℕ) → value_at t.lut_types (name_key cell) ≡ lut_inputs_of rec cell
+  pub elements : AreNumbered rec.lut_definitions.lut_elements t.elements
   pub listings : AreListings rec.site_type_list t.listings rec.cell_bel_map
   pub gnd : t.has_gnd ≡ has_constant rec Gnd
   pub vcc : t.has_vcc ≡ has_constant rec Vcc

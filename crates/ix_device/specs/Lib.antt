@@ -1,5 +1,7 @@
 pub mod Lookups
 pub mod Elements
+pub mod Shapes
+pub mod Numbered
 pub mod Admission
 pub mod Sources
 pub mod SitePips

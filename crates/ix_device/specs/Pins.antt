@@ -18,15 +18,6 @@ pub record ArePins (pins : Pins) : Type 0 where
 abbrev pub line_in : ℕ → ℕ → SiteType → Option ℕ
 line_in bel pin t = option_and_then (λ p. wire_in p t) (pin_of_bel bel pin t)
 
--- lines with one, which is added where it is new
-abbrev pub with_line : List ℕ → ℕ → List ℕ
-with_line lines x = if is_new lines x then lines ++ x ∷ [] else lines
-
--- the same of several
-abbrev pub with_lines : List ℕ → List ℕ → List ℕ
-with_lines lines [] = lines
-with_lines lines (x ∷ xs) = with_lines (with_line lines x) xs
-
 -- The lines of a LUT BEL's inputs, where they are its own; none where they aren't, or where no element has so many.
 abbrev pub AreOwnLines : SiteType → LutBel → Option (List ℕ) → Type 0
 AreOwnLines t b (Some lines) = (has_own_lines t b ≡ true) × (present (input_lines t b) ≡ lines)

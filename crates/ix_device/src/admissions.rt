@@ -3,7 +3,7 @@
 ghost use Rattle.std.specs.Prelude.{◌≡◌, ◌&&◌, ℕ, [], ◌∷◌, nat_eq, is_some, map, slice_get, Some, IfOk, OnOk};
 ghost use Rattle.std.specs.List.{list_any, list_all, position};
 ghost use Rattle.ix_keys.specs.declared.key.Key.{Key as KeySeen};
-ghost use Rattle.ix_keys.specs.Keys.{key, name_key};
+ghost use Rattle.ix_keys.specs.Keys.{key, name_key, key_eq};
 ghost use Rattle.ix_first.specs.First.{value_at, or_later};
 ghost use Rattle.ix_device_rules.specs.Rules.{has_pin};
 ghost use Rattle.ix_device.specs.Lookups.{pin_of_bel};
@@ -107,6 +107,33 @@ fn fits_bel(
     map.differ && are_pins_of(t, bel_pins, bel, pins)
 }
 
+// Puts a pin map's listing of a BEL of a site type, where it has none yet. The pins are looked at only then.
+fn put_bel(
+    table: &mut FirstByKey<Listing>,
+    map: &PinMap,
+    pins: &Items<CellBelPinEntry>,
+    owner: SiteTypeId,
+    t: &SiteType,
+    bel_pins: &FirstByKey<BelPinId>,
+    bel: NameId,
+) -> Result<(), Memory>
+    requires { (b p : ℕ) → value_at bel_pins.now (key 0 b p) ≡ pin_of_bel b p t.now }
+    ensures { OnOk result ((q : KeySeen) → value_at table.new q
+        ≡ or_later (value_at table.old q) (key_eq (key owner bel map.now.cell) q) (listing map.now.mapping map.now.pin_map (map.now.differ && list_all (λ p. has_pin t.now bel p.bel_pin) pins.now))) }
+{
+    let key = Key::new(owner.get(), bel.get(), map.cell.get());
+    if table.get(key).is_some() {
+        return Ok(());
+    }
+    let found = Listing {
+        mapping: map.mapping,
+        pin_map: map.pin_map,
+        fits: fits_bel(map, t, bel_pins, bel, pins),
+    };
+    table.put(key, found)?;
+    Ok(())
+}
+
 // Puts a pin map's listing of these BELs of a site type, for each that has none yet.
 fn put_bels(
     table: &mut FirstByKey<Listing>,
@@ -122,14 +149,7 @@ fn put_bels(
         ≡ or_later (value_at table.old q) (names_one owner map.now.cell bels.now q) (listing map.now.mapping map.now.pin_map (map.now.differ && list_all (λ p. has_pin t.now q.part p.bel_pin) pins.now))) }
 {
     for i in 0..bels.len() {
-        let bel = *bels.at(i);
-        let fits = fits_bel(map, t, bel_pins, bel, pins);
-        let found = Listing {
-            mapping: map.mapping,
-            pin_map: map.pin_map,
-            fits,
-        };
-        table.put(Key::new(owner.get(), bel.get(), map.cell.get()), found)?;
+        put_bel(table, map, pins, owner, t, bel_pins, *bels.at(i))?;
     }
     Ok(())
 }

@@ -7,17 +7,24 @@ ghost use Rattle.ix_device.specs.Lookups.{tile_named, site_type_number, site_nam
 ghost use Rattle.ix_device.specs.Admission.{pins_in};
 ghost use Rattle.ix_device.specs.PinsListed.{pins_listed};
 ghost use Rattle.ix_device.specs.Elements.{lut_inputs_of, element_of_bel};
+ghost use Rattle.ix_device.specs.Elements.{elements_of};
+ghost use Rattle.ix_device.specs.Shapes.{shape_in, shape_seen};
+ghost use Rattle.ix_lut.specs.Shapes.{IsUsable};
 ghost use Rattle.ix_device.specs.Sources.{site_source_in, has_constant};
 ghost use Rattle.ix_device.specs.SitePips.{site_pip_from};
 ghost use Rattle.ix_device.specs.TypeTables.{AreTypeTables};
 
 use crate::admitted::pins_of;
+use crate::numbered::element_numbered;
 use crate::pins::PinList;
+use crate::shapes::shape_of;
 use crate::sites::SiteEntry;
 use crate::tables::Tables;
 use crate::tile_wires::{tile_wire, wire_in_tile, wire_of_pin};
 use crate::types::TypeTables;
+use crate::usable::Pins;
 use ix_keys::Key;
+use ix_lut::ElementShape;
 use ix_num::{
     BelId, BelPinId, Constant, NameId, SiteId, SitePinId, SiteTypeId, SiteWireId, TileId,
 };
@@ -268,6 +275,38 @@ impl Device {
     {
         let (_, tables) = self.parts(t);
         tables.elements.get(bel.get() as usize)
+    }
+
+    /// How many LUT elements a site type has. Their numbers are those below it.
+    pub fn elements(&self, t: SiteTypeId) -> u32
+        requires { t < length self.now.site_type_list }
+        ensures { option_map (λ ty. length (elements_of self.now ty))
+            (slice_get self.now.site_type_list t) ≡ Some result }
+    {
+        let (ty, _) = self.parts(t);
+        self.tables.elements.counts.get(ty.name)
+    }
+
+    /// The shape of a site type's LUT element; none exactly where there is no element of this number,
+    /// or it isn't usable. Lines are numbered by first appearance among the inputs of the element's
+    /// BELs. The element is found by a hash, and so is each input.
+    pub fn shape(&self, t: SiteTypeId, element: u32) -> Option<ElementShape>
+        requires { t < length self.now.site_type_list }
+        ensures shape { option_map shape_seen result
+            ≡ in_type (shape_in self.now element) self.now t }
+        ensures usable { IfSome result IsUsable }
+    {
+        let (ty, tables) = self.parts(t);
+        let entries = &self.rec.lut_definitions.lut_elements;
+        let pins = Pins {
+            ty,
+            numbers: &tables.bel_pins,
+            wires: &tables.wires,
+        };
+        match element_numbered(entries, &self.tables.elements, ty.name, element) {
+            Some(element) => shape_of(&pins, element),
+            None => None,
+        }
     }
 
     /// The constant that a BEL pin of a site type can drive; none exactly where it can drive none.

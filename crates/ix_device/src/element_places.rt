@@ -52,8 +52,8 @@ fn put_bels(
     Ok(())
 }
 
-// The sum of two numbers. Want of memory is answered past 2^32 - 1.
-fn sum_of(a: u32, b: u32) -> Result<u32, Memory>
+/// The sum of two numbers. Want of memory is answered past 2^32 - 1.
+pub(crate) fn sum_of(a: u32, b: u32) -> Result<u32, Memory>
     ensures { IfOk result (λ n. n ≡ a + b) }
 {
     if b > u32::MAX - a {

@@ -9,6 +9,7 @@ use crate::admissions::{Listing, listings};
 use crate::constants::has_constant;
 use crate::luts::lut_types;
 use crate::names::{site_numbers, site_type_numbers, tile_numbers};
+use crate::numbered::{NumberedElements, numbered_elements};
 use crate::sites::{SiteEntry, site_entries};
 use crate::tile_wires::tile_wires;
 use crate::types::{TypeTables, all_type_tables};
@@ -34,6 +35,8 @@ pub(crate) struct Tables {
     pub types: Items<TypeTables>,
     /// The number of inputs of each LUT type, by name.
     pub lut_types: FirstByKey<u32>,
+    /// The LUT elements of site types.
+    pub elements: NumberedElements,
     /// The first pin map that lists a BEL for a cell type.
     pub listings: FirstByKey<Listing>,
     /// Whether the device has logic 0.
@@ -57,6 +60,7 @@ pub(crate) fn tables_of(alloc: Global, rec: &DeviceRec) -> Result<Tables, Memory
     let wires = tile_wires(alloc, &rec.tile_type_list)?;
     let types = all_type_tables(alloc, rec)?;
     let lut_types = lut_types(alloc, rec)?;
+    let elements = numbered_elements(alloc, &rec.lut_definitions.lut_elements)?;
     let listings = listings(
         alloc,
         &rec.cell_bel_map,
@@ -74,6 +78,7 @@ pub(crate) fn tables_of(alloc: Global, rec: &DeviceRec) -> Result<Tables, Memory
         wires,
         types,
         lut_types,
+        elements,
         listings,
         has_gnd,
         has_vcc,

@@ -3,18 +3,18 @@
 ghost use Rattle.std.specs.Prelude.{◌≡◌, nat_eq, IfOk, OnOk};
 ghost use Rattle.std.specs.List.{list_any};
 ghost use Rattle.ix_device.specs.Elements.{is_usable as is_usable_in};
-ghost use Rattle.ix_device.specs.Pins.{ArePins, AreOwnLines, line_in, with_line, with_lines};
+ghost use Rattle.ix_device.specs.Pins.{ArePins, AreOwnLines, line_in};
+ghost use Rattle.ix_device.specs.Shapes.{with_line, with_lines};
 
+use crate::lines::MOST_LINES;
 use ix_first::{FirstById, FirstByKey};
 use ix_keys::Key;
 use ix_num::{BelPinId, Memory, NameId, SiteWireId};
 use ix_rec::{Items, LutBel, LutElement, SiteType};
 use std::alloc::Global;
 
-// A usable element has no more BELs and lines.
-const MOST_BELS: usize = 8;
-
-const MOST_LINES: usize = 12;
+/// A usable element has no more BELs.
+pub(crate) const MOST_BELS: usize = 8;
 
 /// A site type, with the tables of its BEL pins.
 #[derive(Clone, Copy)]
@@ -27,8 +27,8 @@ pub(crate) struct Pins<'a> {
     pub wires: &'a FirstById<SiteWireId>,
 }
 
-// The site wire of a BEL's pin; none where there is no such pin, or it is on none.
-fn line_of(pins: &Pins<'_>, bel: NameId, pin: NameId) -> Option<SiteWireId>
+/// The site wire of a BEL's pin; none where there is no such pin, or it is on none.
+pub(crate) fn line_of(pins: &Pins<'_>, bel: NameId, pin: NameId) -> Option<SiteWireId>
     requires { ArePins pins.now }
     ensures { result ≡ line_in bel pin pins.now.ty.now }
 {

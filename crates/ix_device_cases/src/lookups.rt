@@ -4,6 +4,7 @@ ghost use Rattle.std.specs.Prelude.{◌<◌, length, slice_get, IfSome};
 
 use crate::asked::{Asked, bel_named, name_of, pin_named, type_named};
 use crate::names::{put_found, put_name};
+use crate::shapes::put_element;
 use ix_device::{Device, PinList};
 use ix_num::{BelPinId, Constant, SiteId, SiteTypeId, TileId};
 use ix_strings::Names;
@@ -194,6 +195,7 @@ pub fn put_told(text: &mut String, asked: &Asked<'_>, question: &str) -> Result<
         "Bel" => put_bel(text, asked, first, second),
         "BelPin" => put_bel_pin(text, asked, first, second, third),
         "SitePin" => put_site_pin(text, asked, first, second),
+        "Shape" => put_element(text, asked, first, second),
         "Pins" => put_taken(text, asked, first, second, third),
         _ => put_by_name(text, asked, ask, first),
     }

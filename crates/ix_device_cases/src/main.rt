@@ -22,6 +22,7 @@ mod lookups;
 mod names;
 mod reading;
 mod record_text;
+mod shapes;
 mod texts;
 
 use crate::answer::answer_to;

@@ -1,5 +1,5 @@
 use Rattle.std.proofs.Common.{◌∙◌, ap, sym, [], ◌∷◌, take}
-use Rattle.ix_device.specs.Pins.{with_line, with_lines}
+use Rattle.ix_device.specs.Shapes.{with_line, with_lines}
 use Rattle.ix_device.proofs.Walks.{take_next}
 use Rattle.ix_device.proofs.LineLemmas.{with_lines-append}
 use Rattle.ix_device.proofs.usable.add_lines.Goals as goal

@@ -103,8 +103,9 @@ pub fn answer_to(alloc: Global, line: &str, device: &str) -> Result<String, Allo
         _ => "",
     };
     let bytes = changed_bytes(alloc, device, changes)?;
+    let mut names = Names::new(alloc);
     match open(&bytes) {
-        Some(Ok(frame)) => put_by_frame(&mut text, alloc, line, &frame, &mut Names::new(alloc))?,
+        Some(Ok(frame)) => put_by_frame(&mut text, alloc, line, &frame, &mut names)?,
         Some(Err(fault)) => write!(&mut text, "{fault}")?,
         None => text.push_str("too long")?,
     }

@@ -111,15 +111,21 @@ fn put_taken(
     let Some(t) = type_named(asked, ty) else {
         return text.push_str("no site type");
     };
-    let (Some(bel), Some(cell)) = (bel_named(asked, t, bel), name_of(asked, cell)) else {
-        return text.push_str("no BEL or cell");
+    let Some(bel) = bel_named(asked, t, bel) else {
+        return text.push_str("no BEL");
+    };
+    let Some(cell) = name_of(asked, cell) else {
+        return text.push_str("no name");
     };
     let takes = asked.device.takes(cell, t, bel);
     match asked.device.pins_of(cell, t, bel) {
-        Some(pins) if takes => put_pins(text, asked.names, &pins),
-        None if !takes => text.push_str("none"),
-        _ => text.push_str("pins where a cell isn't taken"),
+        Some(pins) => put_pins(text, asked.names, &pins)?,
+        None => text.push_str("none")?,
     }
+    if takes != asked.device.pins_of(cell, t, bel).is_some() {
+        text.push_str(", though it says otherwise")?;
+    }
+    Ok(())
 }
 
 fn put_site_pin(
@@ -128,10 +134,16 @@ fn put_site_pin(
     ty: &str,
     pin: &str,
 ) -> Result<(), AllocError> {
-    let (Some(t), Some(pin)) = (type_named(asked, ty), name_of(asked, pin)) else {
-        return text.push_str("no site type or name");
+    let Some(t) = type_named(asked, ty) else {
+        return text.push_str("no site type");
     };
-    put_found(text, asked.device.site_pin(t, pin).map(|pin| pin.get()))
+    let Some(pin) = name_of(asked, pin) else {
+        return text.push_str("no name");
+    };
+    match asked.device.site_pin(t, pin) {
+        Some(pin) => put_found(text, Some(pin.get())),
+        None => text.push_str("none"),
+    }
 }
 
 fn put_tile_wire(
@@ -140,7 +152,10 @@ fn put_tile_wire(
     tile: &str,
     wire: &str,
 ) -> Result<(), AllocError> {
-    let (Some(tile), Some(wire)) = (name_of(asked, tile), name_of(asked, wire)) else {
+    let Some(tile) = name_of(asked, tile) else {
+        return text.push_str("no name");
+    };
+    let Some(wire) = name_of(asked, wire) else {
         return text.push_str("no name");
     };
     match asked.device.tile_wire(tile, wire) {
@@ -171,7 +186,10 @@ fn put_by_name(
             Some(site) => put_site(text, asked, site),
             None => text.push_str("none"),
         },
-        "SiteType" => put_found(text, asked.device.site_type(name).map(|t| t.get())),
+        "SiteType" => match asked.device.site_type(name) {
+            Some(t) => put_found(text, Some(t.get())),
+            None => text.push_str("none"),
+        },
         "LutInputs" => put_found(text, asked.device.lut_inputs(name)),
         _ => text.push_str("no such question"),
     }

@@ -30,8 +30,11 @@ pub fn put_element(
     ty: &str,
     element: &str,
 ) -> Result<(), AllocError> {
-    let (Some(t), Ok(element)) = (type_named(asked, ty), element.parse::<u32>()) else {
-        return text.push_str("no site type or number");
+    let Some(t) = type_named(asked, ty) else {
+        return text.push_str("no site type");
+    };
+    let Ok(element) = element.parse::<u32>() else {
+        return text.push_str("no number");
     };
     let count = asked.device.elements(t);
     write!(text, "of {count}: ")?;

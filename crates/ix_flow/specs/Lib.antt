@@ -3,7 +3,6 @@ pub mod Words
 pub mod Answer
 pub mod Status
 pub mod Run
-
 -- For private contracts and proofs.
 pub mod WordsView
 pub mod Steps

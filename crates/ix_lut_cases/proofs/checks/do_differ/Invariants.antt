@@ -1,0 +1,6 @@
+use Rattle.std.proofs.Common.{ℕ, ◌<◌, ◌≢◌, slice_index}
+use Rattle.ix_lut_cases.proofs.checks.do_differ.Given as goal
+
+abbrev pub invariant-loop-i : goal.invariant-loop-i
+invariant-loop-i l = (a b : ℕ) → a < b → b < l.i →
+    slice_index l.numbers a ≢ slice_index l.numbers b

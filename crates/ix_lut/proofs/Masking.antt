@@ -10,7 +10,6 @@ use Rattle.ix_num.specs.declared.resource.NetRef.{NetRef}
 use Rattle.ix_lut.specs.Shapes.{input_lines, bel_at}
 use Rattle.ix_lut.specs.Items.{use_at, item_at, number_in}
 use Rattle.ix_lut.specs.Masks.{Narrows, AreMasks}
-use Rattle.ix_lut.specs.declared.shape.BelShape.{BelShape}
 use Rattle.ix_lut.specs.declared.shape.ElementShape.{ElementShape}
 use Rattle.ix_lut.specs.declared.uses.LutUse.{LutUse}
 use Rattle.ix_lut.specs.declared.uses.Item.{Item}
@@ -28,40 +27,49 @@ place_of_contained xs n l at =
     let inside : at.0 < length xs = omega (arith, length-take n xs, at.1) in
     (at.0, below, get_or_default xs at.0 0 l inside ∙ sym (get_or-take n xs at.0 l below) ∙ at.2)
 
--- the lines of a BEL's first inputs
-pub record HasLines (bel : BelShape) (n mask : ℕ) : Type 0 where
-  pub only : (l : ℕ) → bit_at mask l ≡ 1 → (k : ℕ) × (k < n) × (slice_index bel.lines k ≡ l)
-  pub every : (k : ℕ) → k < n → bit_at mask (slice_index bel.lines k) ≡ 1
+-- a set of the first numbers of a list
+pub record HasFirst (numbers : List ℕ) (n mask : ℕ) : Type 0 where
+  pub only : (l : ℕ) → bit_at mask l ≡ 1 → (k : ℕ) × (k < n) × (slice_index numbers k ≡ l)
+  pub every : (k : ℕ) → k < n → bit_at mask (slice_index numbers k) ≡ 1
 
-module _ (bel : BelShape) where
-  pub lines_first : HasLines bel 0 0
-  lines_first = record {
+module _ (numbers : List ℕ) where
+  pub has_none : HasFirst numbers 0 0
+  has_none = record {
     only = λ l one. absurd (omega (arith, one, bit_at-zero l));
     every = λ k h. absurd (omega (arith, h));
   }
 
-  pub lines_next : (n mask : ℕ) → slice_index bel.lines n < 32 → HasLines bel n mask →
-      HasLines bel (n + 1) (bit_or mask (1 * 2 ^ slice_index bel.lines n % 2 ^ 32))
-  lines_next n mask small has = record {
-    only = λ l one. elim (cases_eq l (slice_index bel.lines n)) [
+  pub has_next : (n mask : ℕ) → slice_index numbers n < 32 → HasFirst numbers n mask →
+      HasFirst numbers (n + 1) (bit_or mask (1 * 2 ^ slice_index numbers n % 2 ^ 32))
+  has_next n mask small has = record {
+    only = λ l one. elim (cases_eq l (slice_index numbers n)) [
       | inl same ↦ (n, omega arith, sym same)
       | inr other ↦
-          let old = has.only l (sym (bit_at_set_other w32 mask (slice_index bel.lines n) small l other) ∙ one) in
+          let old = has.only l (sym (bit_at_set_other w32 mask (slice_index numbers n) small l other) ∙ one) in
           (old.0, omega (arith, old.1), old.2)
     ];
-    every = λ k h. elim (cases_eq (slice_index bel.lines k) (slice_index bel.lines n)) [
-      | inl same ↦ ap (bit_at (bit_or mask (1 * 2 ^ slice_index bel.lines n % 2 ^ 32))) same ∙
-          bit_at_set_same w32 mask (slice_index bel.lines n) small
-      | inr other ↦ bit_at_set_other w32 mask (slice_index bel.lines n) small (slice_index bel.lines k) other ∙
+    every = λ k h. elim (cases_eq (slice_index numbers k) (slice_index numbers n)) [
+      | inl same ↦ ap (bit_at (bit_or mask (1 * 2 ^ slice_index numbers n % 2 ^ 32))) same ∙
+          bit_at_set_same w32 mask (slice_index numbers n) small
+      | inr other ↦ bit_at_set_other w32 mask (slice_index numbers n) small (slice_index numbers k) other ∙
           has.every k (earlier k h other)
     ];
   }
     where
-      earlier : (k : ℕ) → k < n + 1 → slice_index bel.lines k ≢ slice_index bel.lines n → k < n
+      earlier : (k : ℕ) → k < n + 1 → slice_index numbers k ≢ slice_index numbers n → k < n
       earlier k h other = elim (cases_lt k n) [
         | inl under ↦ under
-        | inr over ↦ let same : k ≡ n = omega (arith, h, over) in absurd (other (ap (slice_index bel.lines) same))
+        | inr over ↦ let same : k ≡ n = omega (arith, h, over) in absurd (other (ap (slice_index numbers) same))
       ]
+
+  -- the set of all of so many
+  pub has_only : (n mask : ℕ) → n ≤ length numbers → HasFirst numbers n mask → (l : ℕ) → bit_at mask l ≡ 1 → Contains (take n numbers) l
+  has_only n mask room has l one = let at = has.only l one in contained_at numbers n at.0 l room at.1 at.2
+
+  pub has_every : (n mask : ℕ) → HasFirst numbers n mask → (l : ℕ) → Contains (take n numbers) l → bit_at mask l ≡ 1
+  has_every n mask has l at =
+      let k = place_of_contained numbers n l at in
+      ap (bit_at mask) (sym k.2) ∙ has.every k.0 k.1
 
 module _ (items : List Item) (nets : List NetRef) (mask : ℕ) (before : List ℕ) where
   pub narrow_first : Narrows items nets 0 mask before before

@@ -1,5 +1,5 @@
 -- Ties of an element's lines.
-use Rattle.std.proofs.Common.{◌≡◌, ◌≢◌, ℕ, ◌+◌, ◌<◌, ◌⊎◌, Bool, true, false, inl, inr, List, length, set, slice_index, slice_index_or, sym, ap, ◌∙◌, refl, subst, arith, get_or-set_same, get_or-set_other, eqb, cond, length-set}
+use Rattle.std.proofs.Common.{◌≡◌, ◌≢◌, ℕ, ◌+◌, ◌<◌, ◌≤◌, ◌⊎◌, Bool, true, false, inl, inr, List, length, set, slice_index, slice_index_or, sym, ap, ◌∙◌, refl, subst, arith, get_or-set_same, get_or-set_other, eqb, cond, length-set}
 use Rattle.std.specs.Int.{bit_at}
 use Rattle.std.proofs.lemmas.Bool.{cases_lt, cases_eq, eq-eqb}
 use Rattle.std.proofs.lemmas.List.{get_or_past}
@@ -92,10 +92,25 @@ module _ (luts : List Lut) (tieable : List Bool) where
     apart = can.apart;
   }
 
-  pub can_earlier : (held : Held) (from : ℕ) → CanComplete luts tieable held (from + 1) → CanComplete luts tieable held from
-  can_earlier held from can = record {
+  -- some lines that aren't tieable
+  pub can_skip_to : (held : Held) (from to : ℕ) → ((line : ℕ) → from ≤ line → line < to → slice_index_or tieable line false ≡ false) →
+      CanComplete luts tieable held from → CanComplete luts tieable held to
+  can_skip_to held from to shut can = record {
     other = can.other;
-    completes = record { before = λ line h. can.completes.before line (omega (arith, h)); closed = can.completes.closed };
+    completes = record {
+      before = λ line h. elim (cases_lt line from) [
+        | inl under ↦ can.completes.before line under
+        | inr over ↦ can.completes.closed line (shut line over h)
+      ];
+      closed = can.completes.closed;
+    };
+    apart = can.apart;
+  }
+
+  pub can_earlier : (held : Held) (from to : ℕ) → from ≤ to → CanComplete luts tieable held to → CanComplete luts tieable held from
+  can_earlier held from to le can = record {
+    other = can.other;
+    completes = record { before = λ line h. can.completes.before line (omega (arith, h, le)); closed = can.completes.closed };
     apart = can.apart;
   }
 

@@ -11,6 +11,7 @@ use Rattle.std.specs.Prelude.{
   [],
   length,
   take,
+  slice_index,
   slice_index_or,
 }
 use Rattle.std.specs.Int.{bit_at}
@@ -39,6 +40,8 @@ pub record IsReady (lut : Lut) : Type 0 where
   pub bel : IsUsableBel 12 lut.bel
   pub long : length (input_lines lut.bel) ≡ lut.bel.inputs
   pub few : lut.inputs ≤ 6
+  pub places : (i : ℕ) → i < length (take lut.inputs lut.places) →
+      slice_index (take lut.inputs lut.places) i < 6
   pub word : IsTable lut.bel.inputs lut.word
   pub values : (v : InputValues) → v < 2 ^ lut.bel.inputs →
       bit_at lut.word v ≡ bit_at lut.table (spelled (take lut.inputs lut.places) v)

@@ -1,7 +1,7 @@
 //! The values of a BEL's inputs that agree with the constants on its lines.
 
-ghost use Rattle.std.specs.Prelude.{◌≡◌, ℕ, ◌+◌, ◌^◌, ◌<◌, ◌≤◌, ◌↔◌, Contains, length, slice_index};
-ghost use Rattle.std.specs.Prelude.{IsTrue};
+ghost use Rattle.std.specs.Prelude.{◌≡◌, ℕ, ◌+◌, ◌^◌, ◌<◌, ◌≤◌, Contains, length, slice_index};
+ghost use Rattle.std.specs.Prelude.{true, false};
 ghost use Rattle.std.specs.Int.{bit_at};
 ghost use Rattle.ix_lut.specs.Tables.{IsTable};
 ghost use Rattle.ix_lut.specs.Places.{Allows, Agrees};
@@ -32,26 +32,43 @@ pub(crate) fn allowed(tie: Tie, j: u32) -> u64
     }
 }
 
-/// Whether a place is one of `places`.
-fn is_among(places: &[u32], place: u32) -> bool
-    ensures { IsTrue result ↔ Contains places.now place }
+/// The inputs at `places`, as a set.
+fn used_inputs(places: &[u32]) -> u32
+    requires { (i : ℕ) → i < length places.now → slice_index places.now i < 6 }
+    ensures only { (j : ℕ) → bit_at result j ≡ 1 → Contains places.now j }
+    ensures every { (j : ℕ) → Contains places.now j → bit_at result j ≡ 1 }
 {
-    places.contains(&place)
+    let mut used = 0;
+    for place in places {
+        used |= 1 << *place;
+    }
+    used
+}
+
+/// Whether an input isn't of the set `used`.
+fn is_unused(used: u32, input: u32) -> bool
+    requires { input < 32 }
+    ensures yes { result ≡ true → bit_at used input ≡ 0 }
+    ensures no { result ≡ false → bit_at used input ≡ 1 }
+{
+    (used >> input) & 1 == 0
 }
 
 /// The values of all the BEL's inputs that agree with what holds the lines of the inputs that the
 /// cell doesn't use; its own inputs are at `places`.
 pub(crate) fn agreeing(bel: &BelShape, places: &[u32], held: &[Tie; 12]) -> u64
-    requires { IsUsableBel 12 bel.now }
+    requires bel { IsUsableBel 12 bel.now }
+    requires places { (i : ℕ) → i < length places.now → slice_index places.now i < 6 }
     ensures table { IsTable bel.now.inputs result }
     ensures only { (v : ℕ) → bit_at result v ≡ 1 →
         Agrees (lut_on bel.now places.now) (held_by held.now) v }
     ensures every { (v : ℕ) → Agrees (lut_on bel.now places.now) (held_by held.now) v →
         bit_at result v ≡ 1 }
 {
+    let used = used_inputs(places);
     let mut word = u64::MAX >> (64 - (1u32 << bel.inputs));
     for j in 0..bel.inputs {
-        if !is_among(places, j) {
+        if is_unused(used, j) {
             word &= allowed(held[bel.lines[j as usize] as usize], j);
         }
     }

@@ -55,6 +55,23 @@ fn are_apart(luts: &[Lut], held: &[Tie; 12]) -> bool
     forced.zeros & forced.ones == 0
 }
 
+/// The first tieable line from `from` on, or 12 where there is none.
+fn next_tieable(tieable: &[bool; 12], from: usize) -> usize
+    requires { from ≤ 12 }
+    ensures after { from ≤ result }
+    ensures within { result ≤ 12 }
+    ensures first { (line : ℕ) → from ≤ line → line < result →
+        slice_index_or tieable.now line false ≡ false }
+    ensures is { result < 12 → slice_index_or tieable.now result false ≡ true }
+{
+    for line in from..12 {
+        if tieable[line] {
+            return line;
+        }
+    }
+    12
+}
+
 /// Whether some ties of the tieable lines from `from` on leave no bit forced both ways. A tie
 /// forces fewer bits than a free line, so each such line is tied to vcc or gnd.
 fn can_complete(luts: &[Lut], tieable: &[bool; 12], held: [Tie; 12], from: usize) -> bool
@@ -66,20 +83,18 @@ fn can_complete(luts: &[Lut], tieable: &[bool; 12], held: [Tie; 12], from: usize
     if are_apart(luts, &held) {
         return true;
     }
-    if from == 12 {
+    let line = next_tieable(tieable, from);
+    if line == 12 {
         return false;
     }
-    if !tieable[from] {
-        return can_complete(luts, tieable, held, from + 1);
-    }
     let mut high = held;
-    high[from] = Tie::Vcc;
-    if can_complete(luts, tieable, high, from + 1) {
+    high[line] = Tie::Vcc;
+    if can_complete(luts, tieable, high, line + 1) {
         return true;
     }
     let mut low = held;
-    low[from] = Tie::Gnd;
-    can_complete(luts, tieable, low, from + 1)
+    low[line] = Tie::Gnd;
+    can_complete(luts, tieable, low, line + 1)
 }
 
 /// Gives a tieable line its least tie with which the others can be completed.

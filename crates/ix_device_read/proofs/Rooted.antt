@@ -3,7 +3,7 @@ use Rattle.std.proofs.Common.{◌≡◌, [], ◌∷◌, ◌∙◌, map, length, 
 use Rattle.std.specs.Prelude.{Some, None, if◌then◌else◌}
 use Rattle.ix_frame.specs.Objects.{has_pointer}
 use Rattle.ix_frame.specs.Sound.{sound_elements, sound_struct, sound_text}
-use Rattle.ix_frame.specs.Target.{Object, Elements}
+use Rattle.ix_frame.specs.Target.{Object}
 use Rattle.ix_message.specs.Device.{device, site_type, tile_type, tile, wire, node, cell_bel_mapping, package_of_pins, constant_cells, lut_definitions}
 use Rattle.ix_message.specs.Reading.{row_at}
 use Rattle.ix_message.specs.Shape.{Text, Struct, Value}

@@ -1,7 +1,6 @@
 -- What the values of this crate are.
-use Rattle.std.specs.Prelude.{◌≡◌, ℕ, ◌-◌, List, map, Result, Ok, Err, slice_index}
+use Rattle.std.specs.Prelude.{◌≡◌, ℕ, List, map, Result, Ok, Err}
 use Rattle.ix_message.specs.Shape.{Text}
-use Rattle.ix_message.specs.Indexes.{Item}
 use Rattle.ix_schema.specs.Named.{kind_text, field_text}
 use Rattle.ix_schema.specs.Structs.{device_structs}
 use Rattle.ix_device_read.specs.declared.context.Context.{Context}

@@ -30,6 +30,7 @@ use std::alloc::Global;
 
 /// The number of the root in the table, and the slot of its string table.
 const DEVICE: usize = 28;
+
 const TABLE_SLOT: u32 = 1;
 
 /// The root of a frame whose message has no frame fault, else the first one.

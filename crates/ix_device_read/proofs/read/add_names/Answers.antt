@@ -1,4 +1,4 @@
-use Rattle.std.proofs.Common.{◌≡◌, ◌∷◌, [], ◌++◌, List, subst, sym}
+use Rattle.std.proofs.Common.{◌∷◌, [], ◌++◌, List, subst, sym}
 use Rattle.ix_frame.specs.Sound.{sound_struct, sound_text}
 use Rattle.ix_frame.specs.Views.{object_of}
 use Rattle.ix_message.specs.Shape.{Text}

@@ -1,7 +1,7 @@
-use Rattle.std.proofs.Common.{◌≡◌, sym, ◌∙◌, ap}
+use Rattle.std.proofs.Common.{sym, ◌∙◌, ap}
 use Rattle.ix_frame.specs.Sound.{sound_elements}
 use Rattle.ix_frame.specs.Target.{Elements}
-use Rattle.ix_frame.specs.Views.{object_of, elements_of}
+use Rattle.ix_frame.specs.Views.{object_of}
 use Rattle.ix_schema.specs.Said.{said}
 use Rattle.ix_device_read.proofs.Said.{said_length}
 use Rattle.ix_device_read.proofs.at.At.count.Goals as goal

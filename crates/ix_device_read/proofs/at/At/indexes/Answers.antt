@@ -6,7 +6,6 @@ use Rattle.ix_message.specs.Names.{the_number}
 use Rattle.ix_device_read.specs.Finish.{below, each_alone}
 use Rattle.ix_device_read.specs.Views.{kind_word, field_word, Stops}
 use Rattle.ix_device_read.proofs.Each.{numbers_from, no_items, alone_more, alone_stops, alone_done}
-use Rattle.ix_device_read.proofs.Naming.{all_push}
 use Rattle.ix_device_read.proofs.at.At.indexes.Goals as goal
 
 pub returns-in-Err : goal.returns-in-Err

@@ -1,8 +1,8 @@
-use Rattle.std.proofs.Common.{◌≡◌, ℕ, map, drop}
+use Rattle.std.proofs.Common.{◌≡◌, map, drop}
 use Rattle.ix_frame.specs.Views.{numbers_of}
 use Rattle.ix_message.specs.Names.{the_number}
 use Rattle.ix_device_read.specs.Finish.{below, each_alone}
-use Rattle.ix_device_read.specs.Views.{kind_word, field_word, Stops}
+use Rattle.ix_device_read.specs.Views.{kind_word, field_word}
 use Rattle.ix_device_read.proofs.Each.{behind_some}
 use Rattle.ix_device_read.proofs.at.At.indexes.Given as goal
 

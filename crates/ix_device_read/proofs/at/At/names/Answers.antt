@@ -5,7 +5,7 @@ use Rattle.ix_frame.specs.Views.{numbers_of}
 use Rattle.ix_message.specs.Shape.{name}
 use Rattle.ix_message.specs.Names.{the_text}
 use Rattle.ix_device_read.specs.Finish.{asked_at, each_alone}
-use Rattle.ix_device_read.specs.Named.{limit_of, AllNamed}
+use Rattle.ix_device_read.specs.Named.{limit_of}
 use Rattle.ix_device_read.specs.Numbers.{name_text}
 use Rattle.ix_device_read.specs.Views.{sizes_of, kind_word, field_word, Stops}
 use Rattle.ix_device_read.proofs.Each.{numbers_from, no_items, alone_more, alone_stops, alone_done}

@@ -5,7 +5,7 @@ use Rattle.ix_message.specs.Names.{the_text}
 use Rattle.ix_device_read.specs.Finish.{asked_at, each_alone}
 use Rattle.ix_device_read.specs.Named.{limit_of, AllNamed}
 use Rattle.ix_device_read.specs.Numbers.{name_text}
-use Rattle.ix_device_read.specs.Views.{sizes_of, kind_word, field_word, Stops}
+use Rattle.ix_device_read.specs.Views.{sizes_of, kind_word, field_word}
 use Rattle.ix_device_read.proofs.Each.{behind_some}
 use Rattle.ix_device_read.proofs.at.At.names.Given as goal
 

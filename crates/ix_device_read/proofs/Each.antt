@@ -64,9 +64,6 @@ pub nothing_left : {A : Type 0} (all : List A) (n : ℕ) → n ≡ 0 → n ≡ l
 nothing_left [] n none is = refl
 nothing_left (x ∷ xs) n none is = absurd (omega (arith, none, is))
 
-pub one_left : {A : Type 0} (all : List A) (x : A) (xs : List A) (n after : ℕ) → all ≡ x ∷ xs → after + 1 ≡ n → n ≡ length all → after ≡ length xs
-one_left all x xs n after is less long = let e : length all ≡ length xs + 1 = rw is (omega arith) in omega (arith, e, less, long)
-
 -- The same of the items of a list of numbers or texts.
 abbrev pub behind_some : {B : Type 0} → List B → Result (List B) Stopped → Result (List B) Stopped
 behind_some front rest = rest >>= λ x. Ok (front ++ x)
@@ -74,10 +71,6 @@ behind_some front rest = rest >>= λ x. Ok (front ++ x)
 regroup_some : {B : Type 0} (front : List B) (n : B) (rest : Result (List B) Stopped) → behind_some front (rest >>= λ x. Ok (n ∷ x)) ≡ behind_some (front ++ n ∷ []) rest
 regroup_some {B} front n (Ok x) = ap Ok (simp append_assoc)
 regroup_some front n (Err f) = refl
-
--- the items from the i-th on
-pub items_from : {A : Type 0} (xs : List A) (i : ℕ) (x : A) → i < length xs → slice_get xs i ≡ Some x → drop i xs ≡ x ∷ drop (i + 1) xs
-items_from xs i x lt at = drop-cons xs i x lt ∙ rw (get_or_from_slice_get xs i x x at, add-one) refl
 
 -- the numbers from the i-th on
 pub numbers_from : (xs : List ℕ) (i n : ℕ) → i < length xs → n ≡ slice_index xs i → drop i xs ≡ n ∷ drop (i + 1) xs

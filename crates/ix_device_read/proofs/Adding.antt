@@ -95,9 +95,6 @@ grows_on xs ys old now new h k = record {
   most = omega (arith, h.most, k.most, sum_by-append paid_text xs ys);
 }
 
-pub knows_none : (names : List Text) → Knows [] names names
-knows_none names = record { grows = grows_same [] names; known = tt }
-
 pub knows_on : (xs ys old now new : List Text) → Knows xs old now → Knows ys now new → Knows (xs ++ ys) old new
 knows_on xs ys old now new h k = record {
   grows = grows_on xs ys old now new h.grows k.grows;
@@ -136,9 +133,6 @@ pub adds_last : {A E : Type 0} (r : Result A E) (ts old new : List Text) → Add
 adds_last r ts old new h = subst (λ (us : List Text). Adds r us old new) (sym (append-nil ts)) h
 
 -- Room for texts.
-
-pub room_add : (t : Text) (names : List Text) → HasRoom (t ∷ []) names → length names < 2 ^ 32 - 1
-room_add t names room = let m = reach_most names in omega arith
 
 pub room_first : (xs ys names : List Text) → HasRoom (xs ++ ys) names → HasRoom xs names
 room_first xs ys names room = omega (arith, sum_by-append paid_text xs ys)
@@ -179,10 +173,6 @@ module _ {A : Type 0} (f : A → List Text) (vs : List A) (old : List Text) wher
 
   pub all_added : (i : ℕ) (now : List Text) → length vs ≤ i → Knows (flat_map f (take i vs)) old now → Knows (flat_map f vs) old now
   all_added i now le h = subst (λ (xs : List A). Knows (flat_map f xs) old now) (take_all i vs le) h
-
--- what stands at a place of a list, seen by a view
-pub mapped_at : {A B : Type 0} (f : A → B) (xs : List A) (i : ℕ) (x : A) → slice_get xs i ≡ Some x → slice_get (map f xs) i ≡ Some (f x)
-mapped_at f xs i x at = slice_get-map f xs i ∙ ap (option_map f) at
 
 -- texts one by one
 pub ones : (ts : List Text) → flat_map (λ t. t ∷ []) ts ≡ ts

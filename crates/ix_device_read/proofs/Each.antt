@@ -1,14 +1,12 @@
 -- Finishing the structs of a list one after the other, as a loop does that has finished some and goes on with the rest.
-use Rattle.std.proofs.Common.{◌≡◌, ℕ, ◌+◌, ◌<◌, ◌≤◌, List, [], ◌∷◌, ◌++◌, length, drop, slice_get, Some, Result, Ok, Err, refl, sym, ap, ◌∙◌, append_assoc, add-one, drop-cons, arith}
+use Rattle.std.proofs.Common.{◌≡◌, ℕ, ◌+◌, ◌<◌, ◌≤◌, List, [], ◌∷◌, ◌++◌, length, drop, slice_get, slice_index, Some, Result, Ok, Err, refl, sym, ap, ◌∙◌, append_assoc, add-one, drop-cons, arith}
 use Rattle.std.proofs.lemmas.Option.{get_or_from_slice_get}
 use Rattle.std.proofs.lemmas.List.{append-nil, drop_all}
 use Rattle.ix_frame.specs.Result.{◌>>=◌}
 use Rattle.ix_device_read.specs.declared.stop.Stop.{Stop}
 use Rattle.ix_device_read.specs.declared.stop.Stop.TheVariants.{OutOfList, Unnamed, Memory}
-use Rattle.ix_rec.specs.declared.place.Place.{Place}
-use Rattle.ix_rec.specs.declared.place.Place.TheVariants.{Item}
 use Rattle.ix_device_read.specs.Finish.{Stopped, bad, unnamed, finish_each, each_alone}
-use Rattle.ix_device_read.specs.Views.{Stops, IsBadAt}
+use Rattle.ix_device_read.specs.Views.{Stops, kind_word, field_word}
 
 -- what was finished before, and what is still finished
 abbrev pub behind_front : {B : Type 0} → List B → Result (List B × List ℕ) Stopped → Result (List B × List ℕ) Stopped
@@ -27,15 +25,11 @@ one_more finish front x xs all counts y after total is h so_far =
     let one : behind_front front (finish_each finish all counts) ≡ behind_front (front ++ y ∷ []) (finish_each finish xs after) = rw (is, h) (regroup front y (finish_each finish xs after)) in
     sym one ∙ so_far
 
-bad_stops : {Y Z : Type 0} (p : Place) (given : Result Y Stopped) (total : Result Z Stopped) → IsBadAt p given → ((f : Stopped) → given ≡ Err f → total ≡ Err f) → IsBadAt p total
-bad_stops (Item k f i) given total h on = on (bad (record { kind = k; field = f; index = i })) h
-bad_stops _ given total h on = h
-
 -- what stops one thing stops the whole
 pub stops_on : {Y Z : Type 0} (e : Stop) (given : Result Y Stopped) (total : Result Z Stopped) → Stops e given → ((f : Stopped) → given ≡ Err f → total ≡ Err f) → Stops e total
 stops_on Memory given total h on = tt
 stops_on Unnamed given total h on = on unnamed h
-stops_on (OutOfList p) given total h on = bad_stops p given total h on
+stops_on (OutOfList kind field i) given total h on = on (bad (record { kind = kind_word kind; field = field_word kind field; index = i })) h
 
 err_first : {X Y : Type 0} (f : Stopped) (given : Result X Stopped) (next : X → Result Y Stopped) → given ≡ Err f → given >>= next ≡ Err f
 err_first f given next at = rw at refl
@@ -70,9 +64,6 @@ pub nothing_left : {A : Type 0} (all : List A) (n : ℕ) → n ≡ 0 → n ≡ l
 nothing_left [] n none is = refl
 nothing_left (x ∷ xs) n none is = absurd (omega (arith, none, is))
 
-pub one_left : {A : Type 0} (all : List A) (x : A) (xs : List A) (n after : ℕ) → all ≡ x ∷ xs → after + 1 ≡ n → n ≡ length all → after ≡ length xs
-one_left all x xs n after is less long = let e : length all ≡ length xs + 1 = rw is (omega arith) in omega (arith, e, less, long)
-
 -- The same of the items of a list of numbers or texts.
 abbrev pub behind_some : {B : Type 0} → List B → Result (List B) Stopped → Result (List B) Stopped
 behind_some front rest = rest >>= λ x. Ok (front ++ x)
@@ -81,9 +72,9 @@ regroup_some : {B : Type 0} (front : List B) (n : B) (rest : Result (List B) Sto
 regroup_some {B} front n (Ok x) = ap Ok (simp append_assoc)
 regroup_some front n (Err f) = refl
 
--- the items from the i-th on
-pub items_from : {A : Type 0} (xs : List A) (i : ℕ) (x : A) → i < length xs → slice_get xs i ≡ Some x → drop i xs ≡ x ∷ drop (i + 1) xs
-items_from xs i x lt at = drop-cons xs i x lt ∙ rw (get_or_from_slice_get xs i x x at, add-one) refl
+-- the numbers from the i-th on
+pub numbers_from : (xs : List ℕ) (i n : ℕ) → i < length xs → n ≡ slice_index xs i → drop i xs ≡ n ∷ drop (i + 1) xs
+numbers_from xs i n lt at = drop-cons xs i 0 lt ∙ rw (at, add-one) refl
 
 -- past the end there are none
 pub no_items : {A : Type 0} (xs : List A) (i : ℕ) → length xs ≤ i → drop i xs ≡ []

@@ -9,6 +9,8 @@ pub mod Flags
 pub mod Longest
 pub mod Naming
 pub mod Root
+pub mod Rooted
+pub mod Said
 pub mod Tallied
 pub mod Walked
 pub mod Whole

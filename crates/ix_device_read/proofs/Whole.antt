@@ -9,21 +9,23 @@ use Rattle.ix_frame.specs.Views.{segments_of}
 use Rattle.ix_frame.specs.Objects.{whole_budget}
 use Rattle.ix_frame.proofs.Parts.{budget_of, budget_short}
 use Rattle.ix_rec.specs.declared.fault.ReadFault.{ReadFault}
+use Rattle.ix_rec.specs.declared.fault.ReadFault.TheVariants.{Frame as BadFrame, Index, Memory as NoMemory}
 use Rattle.ix_rec.specs.declared.place.Place.{Place}
 use Rattle.ix_rec.specs.declared.place.Place.TheVariants.{Item as Field}
 use Rattle.ix_message.specs.Device.{device}
 use Rattle.ix_message.specs.Shape.{Text, Struct, Pointers, Value, Parts, struct_of, no_more, text, texts, numbers, struct, struct_or_none, boxed, structs, branches, string_table, unread}
 use Rattle.ix_message.specs.Names.{option_uses}
 use Rattle.ix_message.specs.Indexes.{Item}
-use Rattle.ix_message.specs.Message.{out_of_list, reading, unless_bad, numbers_in_segments}
+use Rattle.ix_message.specs.Message.{out_of_list, reading, unless_bad, numbers_in_segments, Unread}
 use Rattle.ix_message.specs.Records.{IfThere}
 use Rattle.ix_device_read.specs.Finish.{bad, unnamed}
 use Rattle.ix_device_read.specs.Loose.{loose_texts, loose_parts, HasRoom, Grows, AreNumbersOf}
 use Rattle.ix_device_read.specs.Numbers.{name_text}
 use Rattle.ix_device_read.specs.Premises.{IsKnown, TextsKnown, PartsKnown, structs_in}
-use Rattle.ix_device_read.specs.Reading.{reading_in_segments, record_unless_bad, IsBadField, FileReads, IsReading}
+use Rattle.ix_device_read.specs.Reading.{reading_in_segments, record_unless_bad, IsBadField, Refuses, FileReads, IsReading}
+use Rattle.ix_device_read.specs.Faults.{IsFieldAt, TellsField}
+use Rattle.ix_device_read.specs.Views.{kind_word, field_word}
 use Rattle.ix_device_read.specs.Sizes.{finished_as}
-use Rattle.ix_device_read.specs.Views.{IsBadAt}
 use Rattle.ix_device_read.proofs.Adding.{reach_most}
 use Rattle.ix_device_read.proofs.Bound.{device_bound}
 
@@ -50,9 +52,14 @@ bad_is : {Y : Type 0} (first : Option Item) (whole : Y) (item : Item) → finish
 bad_is None whole item h = absurd (cc)
 bad_is (Some found) whole item h = let e : found ≡ item = cc in ap (λ x. Err (out_of_list x)) e
 
-pub bad_field : {Y : Type 0} (p : Place) (first : Option Item) (whole : Y) → IsBadAt p (finished_as first whole) → IsBadField p (unless_bad first whole)
-bad_field (Field k f i) first whole h = bad_is first whole (record { kind = k; field = f; index = i }) h
-bad_field _ first whole h = absurd h
+field_at : {Y : Type 0} (p : Place) (kind field i : ℕ) (whole : Result Y Unread) → IsFieldAt kind field i p → whole ≡ Err (out_of_list (record { kind = kind_word kind; field = field_word kind field; index = i })) → IsBadField p whole
+field_at (Field k f n) kind field i whole is at = rw (is.0, is.1, is.2) at
+field_at _ kind field i whole is at = absurd is
+
+pub bad_field : {Y : Type 0} (e : ReadFault) (kind field i : ℕ) (first : Option Item) (whole : Y) → TellsField kind field i e → finished_as first whole ≡ Err (bad (record { kind = kind_word kind; field = field_word kind field; index = i })) → Refuses e (unless_bad first whole)
+bad_field NoMemory kind field i first whole tells h = tt
+bad_field (BadFrame f) kind field i first whole tells h = absurd tells
+bad_field (Index p) kind field i first whole tells h = field_at p kind field i (unless_bad first whole) tells (bad_is first whole (record { kind = kind_word kind; field = field_word kind field; index = i }) h)
 
 -- what holds of the record that a message stands for holds of what was read
 pub read_has : {X Y : Type 0} (view : X → Y) (P : Y → Type 0) (r : Result X ReadFault) (first : Option Item) (whole : Y) → IsReading view r (unless_bad first whole) → P whole → IfOk r (λ x. P (view x))

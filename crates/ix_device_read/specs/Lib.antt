@@ -1,3 +1,4 @@
+pub mod Faults
 pub mod Finish
 pub mod Finishing
 pub mod Long

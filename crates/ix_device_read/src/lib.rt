@@ -1,15 +1,14 @@
 //! The reader of device resources.
 #![tactic(auto)]
 
+mod at;
 mod cell_map;
 mod choices;
 mod context;
 mod device;
-mod finish;
 mod intern;
 mod inversion;
 mod laws;
-mod lists;
 mod lut;
 mod lut_texts;
 mod package;
@@ -17,6 +16,7 @@ mod package_pin_site;
 mod read;
 mod site_type;
 mod stop;
+mod take;
 mod tile;
 mod tile_type;
 mod walk;

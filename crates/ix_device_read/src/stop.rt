@@ -4,13 +4,19 @@ ghost use Rattle.std.specs.Prelude.{◌≡◌};
 ghost use Rattle.ix_device_read.specs.declared.stop.Stop.TheVariants.{Memory as NoMemory};
 
 use ix_num::Memory;
-use ix_rec::Place;
 
 /// Why a struct of a message makes no part of a record.
 #[derive(Debug, Drop)]
 pub enum Stop {
-    /// A number is out of its list: the place of its field.
-    OutOfList(Place),
+    /// A number is out of its list.
+    OutOfList {
+        /// Of which struct of the table.
+        kind: usize,
+        /// Which of its fields.
+        field: usize,
+        /// The how manieth of these structs, in reading order, from 0.
+        index: u32,
+    },
     /// A text is none of the names.
     Unnamed,
     /// Want of memory.

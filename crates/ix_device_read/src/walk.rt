@@ -33,7 +33,7 @@ impl Walk {
     /// A struct of this kind is begun.
     pub fn begin(&mut self, kind: usize)
         requires { kind < KINDS }
-        ensures { self.new ≡ with_one_more self.old kind }
+        ensures { with_one_more self.old kind ≡ self.new }
     {
         self.counts[kind] = self.counts[kind].saturating_add(1);
     }

@@ -42,7 +42,7 @@ impl Budget {
     }
 
     /// More than any reading may cost.
-    pub fn endless() -> Budget
+    pub(crate) fn endless() -> Budget
         ensures { result ≡ 2 ^ 64 - 1 }
     {
         Budget(u64::MAX)

@@ -2,14 +2,11 @@
 //! structs, of numbers and of texts are read by one function each.
 #![tactic(auto)]
 
-mod flags;
 mod from_message;
 mod numbers;
 mod structs;
 mod texts;
 
-pub use flags::flag_at;
 pub use from_message::{FromMessage, read_list};
 pub use numbers::read_numbers;
-pub use structs::{Raw, read_message, read_struct, read_struct_or_none};
-pub use texts::read_texts;
+pub use structs::{Raw, read_message, read_struct};

@@ -3,10 +3,9 @@
 ghost use Rattle.std.specs.Prelude.{◌≡◌, map};
 ghost use Rattle.ix_frame.specs.Views.{object_of, segments_of};
 ghost use Rattle.ix_message.specs.Reading.{table_slot, pointers_of};
-ghost use Rattle.ix_message.specs.Names.{option_with};
 ghost use Rattle.ix_message.specs.Message.{numbers_in_segments};
 ghost use Rattle.ix_message_read.specs.Tells.{Tells, Says};
-ghost use Rattle.ix_message_read.specs.Structs.{value_behind, value_behind_or_none};
+ghost use Rattle.ix_message_read.specs.Structs.{value_behind};
 
 use crate::from_message::FromMessage;
 use crate::texts::read_texts;
@@ -25,23 +24,6 @@ pub fn read_struct<'a, T: FromMessage<'a>>(
 {
     let inner = o.obj(slot, budget)?;
     T::read(alloc, inner, budget)
-}
-
-/// The same of a struct that isn't there where its pointer is zero.
-pub fn read_struct_or_none<'a, T: FromMessage<'a>>(
-    alloc: Global,
-    o: Obj<'a>,
-    slot: u32,
-    budget: &mut Budget,
-) -> Result<Option<T>, ReadFault>
-    ensures { Tells (option_with T.value) result budget.new (value_behind_or_none T.shape (object_of o.entry) slot budget.old) }
-{
-    if o.has(slot) {
-        let one = read_struct(alloc, o, slot, budget)?;
-        Ok(Some(one))
-    } else {
-        Ok(None)
-    }
 }
 
 /// A message with its numbers as they stand in the file.

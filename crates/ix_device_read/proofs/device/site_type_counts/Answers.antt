@@ -1,24 +1,37 @@
-use Rattle.std.proofs.Common.{◌≡◌, ◌++◌, ◌+◌, ◌<◌, ◌≤◌, ◌∷◌, [], map, take, length, get_or, refl, sym, arith, ◌∙◌}
-use Rattle.std.proofs.lemmas.List.{map_push, map_more, length-map, take_all}
-use Rattle.std.proofs.lemmas.Option.{get_or_from_slice_get}
-use Rattle.ix_device_raw.specs.Raw.{tile_type_numbers, site_type_in_tile_type_numbers}
+use Rattle.std.proofs.Common.{◌≡◌, ◌≤◌, ◌<◌, ◌∙◌, length, ap, sym, append_assoc, arith}
+use Rattle.std.proofs.lemmas.List.{append-nil, length-map}
+use Rattle.ix_frame.specs.Objects.{element_of}
+use Rattle.ix_frame.specs.Sound.{sound_elements}
+use Rattle.ix_frame.specs.Target.{Elements, Object}
+use Rattle.ix_frame.specs.Views.{elements_of}
+use Rattle.ix_message.specs.Device.{tile_type}
+use Rattle.ix_schema.specs.Said.{said, each_said}
 use Rattle.ix_device_read.specs.Sizes.{site_type_count}
+use Rattle.ix_device_read.proofs.Said.{said_length, said_next, said_no_more, types_of_sites}
 use Rattle.ix_device_read.proofs.device.site_type_counts.Goals as goal
 
 pub loop-i-preserved : goal.loop-i-preserved
 loop-i-preserved c =
-    let lt : c.loop-i.i < length c.args.list.now = omega arith in
-    let t = c.at.result.now in
-    let here : get_or c.args.list.now c.loop-i.i t ≡ t = get_or_from_slice_get c.args.list.now c.loop-i.i t t c.at.ensures in
-    let more : map tile_type_numbers (take (c.loop-i.i + 1) c.args.list.now) ≡ map tile_type_numbers (take c.loop-i.i c.args.list.now) ++ tile_type_numbers t ∷ [] =
-    map_more tile_type_numbers c.args.list.now c.loop-i.i t lt ∙ rw here refl in
-    let both : map site_type_count (map tile_type_numbers (take (c.loop-i.i + 1) c.args.list.now)) ≡ map site_type_count (map tile_type_numbers (take c.loop-i.i c.args.list.now)) ++ site_type_count (tile_type_numbers t) ∷ [] =
-    rw more (map_push site_type_count (map tile_type_numbers (take c.loop-i.i c.args.list.now)) (tile_type_numbers t)) in
-    let one : site_type_count (tile_type_numbers t) ≡ c.len-count.result = length-map t.site_types site_type_in_tile_type_numbers ∙ sym c.len-count.ensures in
-    c.in_ok-push.ensures.ok ∙ rw (both, one, c.loop-i.invariant) refl
+    let l = elements_of c.args.list in
+    let i = c.loop-i.i in
+    let lt : i < l.count = omega arith in
+    let one : c.len-count.result ≡ site_type_count (said tile_type (element_of l i)) =
+    c.len-count.ensures ∙ ap (λ (e : Elements). e.count) c.sound_list.ensures ∙ ap (λ (o : Object). (sound_elements o 0).count) c.at.ensures ∙ sym (types_of_sites (element_of l i)) in
+    rw (c.in_ok-push.ensures.ok, one, append_assoc) (rw (said_next (said tile_type) l.count l i lt) at c.loop-i.invariant)
 
-pub returns : goal.returns
-returns c =
-    let le : length c.args.list.now ≤ c.loop-i.i = omega arith in
-    let all : take c.loop-i.i c.args.list.now ≡ c.args.list.now = take_all c.loop-i.i c.args.list.now le in
-    c.loop-i.invariant ∙ rw all refl
+pub returns-clause-counts : goal.returns-clause-counts
+returns-clause-counts c =
+    let l = elements_of c.args.list in
+    let le : l.count ≤ c.loop-i.i = omega arith in
+    let none = said_no_more (said tile_type) l.count l c.loop-i.i le in
+    sym (append-nil c.loop-i.counts) ∙ (rw none at c.loop-i.invariant)
+
+pub returns-clause-few : goal.returns-clause-few
+returns-clause-few c =
+    let l = elements_of c.args.list in
+    let le : l.count ≤ c.loop-i.i = omega arith in
+    let none = said_no_more (said tile_type) l.count l c.loop-i.i le in
+    let all = sym (append-nil c.loop-i.counts) ∙ (rw none at c.loop-i.invariant) in
+    let many : length c.loop-i.counts ≡ c.len.result = ap length all ∙ length-map (each_said (said tile_type) l.count l 0) site_type_count ∙ said_length (said tile_type) l.count l 0 ∙ sym c.len.ensures in
+    let few = c.len.type_inv in
+    omega arith

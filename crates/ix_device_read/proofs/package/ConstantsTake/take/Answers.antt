@@ -1,0 +1,24 @@
+use Rattle.std.proofs.Common.{refl}
+use Rattle.std.proofs.lemmas.Result.{err_from_is_err_and}
+use Rattle.ix_message.specs.Reading.{row_at}
+use Rattle.ix_schema.specs.Said.{said}
+use Rattle.ix_device_read.specs.Finish.{finish_at, finish_row}
+use Rattle.ix_device_read.specs.Views.{kind_word, field_word}
+use Rattle.ix_device_read.proofs.Each.{stops_first}
+use Rattle.ix_device_read.proofs.package.ConstantsTake.take.Goals as goal
+
+pub returns-in_err-site_sources-clause-made : goal.returns-in_err-site_sources-clause-made
+unfolding finish_at finish_row said row_at kind_word field_word
+returns-in_err-site_sources-clause-made c =
+    let p = err_from_is_err_and c.from_residual-in_err-site_sources.result c.from_residual-in_err-site_sources.ensures.1 in
+    rw (p.1, p.2, c.begin.ensures, c.in_ok-gnd_cell_type.ensures.made, c.in_ok-gnd_cell_pin.ensures.made, c.in_ok-vcc_cell_type.ensures.made, c.in_ok-vcc_cell_pin.ensures.made, c.number.ensures) (stops_first c.in_err-site_sources.field-0.0 _ _ (stops_first c.in_err-site_sources.field-0.0 _ _ c.in_err-site_sources.ensures.made))
+
+pub returns-in_err-node_sources-clause-made : goal.returns-in_err-node_sources-clause-made
+unfolding finish_at finish_row said row_at kind_word field_word
+returns-in_err-node_sources-clause-made c =
+    let p = err_from_is_err_and c.from_residual-in_err-node_sources.result c.from_residual-in_err-node_sources.ensures.1 in
+    rw (p.1, p.2, c.begin.ensures, c.in_ok-gnd_cell_type.ensures.made, c.in_ok-gnd_cell_pin.ensures.made, c.in_ok-vcc_cell_type.ensures.made, c.in_ok-vcc_cell_pin.ensures.made, c.number.ensures, c.in_ok-site_sources.ensures.made) (stops_first c.in_err-node_sources.field-0.0 _ _ (stops_first c.in_err-node_sources.field-0.0 _ _ (stops_first c.in_err-node_sources.field-0.0 _ _ c.in_err-node_sources.ensures.made)))
+
+pub returns-clause-made : goal.returns-clause-made
+unfolding finish_at finish_row said row_at kind_word field_word
+returns-clause-made c = rw (c.begin.ensures, c.in_ok-gnd_cell_type.ensures.made, c.in_ok-gnd_cell_pin.ensures.made, c.in_ok-vcc_cell_type.ensures.made, c.in_ok-vcc_cell_pin.ensures.made, c.number.ensures, c.in_ok-site_sources.ensures.made, c.in_ok-node_sources.ensures.made) refl

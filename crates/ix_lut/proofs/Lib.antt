@@ -15,3 +15,4 @@ pub mod Planning
 pub mod Showing
 pub mod PlanMade
 pub mod OneFunction
+pub mod Inits

@@ -6,6 +6,7 @@ pub mod Orders
 pub mod Items
 pub mod Ties
 pub mod Plans
+pub mod Init
 -- What only private contracts cite.
 pub mod Readings
 pub mod Forcing

@@ -6,6 +6,7 @@ mod assign;
 mod cells;
 mod forcing;
 mod function;
+mod init;
 mod items;
 mod lay;
 mod masks;
@@ -15,6 +16,7 @@ mod table;
 mod uses;
 
 pub use function::function_at;
+pub use init::{InitValue, read_init};
 pub use plan::{ElementPlan, element};
 pub use shape::{BelShape, ElementShape, Tie};
 pub use table::{Table, permute};

@@ -1,1 +1,3 @@
-mod Setting
+pub mod Setting
+pub mod FaultLines
+pub mod Ending

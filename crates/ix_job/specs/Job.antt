@@ -1,5 +1,5 @@
 -- What a job is, and how its run may end: for any shelf, any sink and any work.
-use Rattle.std.specs.Prelude.{◌≡◌, ◌<◌, ◌⊎◌, ℕ, ◌^◌, List, [], ◌∷◌, length, map, take, nat_lt, Option, Some, None, option_map, option_and_then, slice_get, IsSome, Result, Ok, Err, if◌then◌else◌}
+use Rattle.std.specs.Prelude.{◌≡◌, ◌⊎◌, ℕ, ◌^◌, List, [], ◌∷◌, length, map, take, nat_lt, Option, Some, None, option_map, slice_get, IsSome, Result, Ok, Err, if◌then◌else◌}
 use Rattle.std.specs.List.{AllByRecursion}
 use Rattle.ix_shelf.specs.Shelf.{Files, Rose, IsAbsent, LeavesPrefix, with_file}
 use Rattle.ix_report.specs.declared.report.Report as reports
@@ -62,7 +62,7 @@ pub record IsUnread (job : Job) (before after : Outside) (report : reports.Repor
   pub which : slice_get job.inputs place ≡ Some name
   pub there : (files : Files) → before.files ≡ Some files
       → AllByRecursion (λ other. IsSome (files other)) (take place job.inputs)
-  pub cause : Rose before.read_faults after.read_faults ⊎ IsAbsent before.files name
+  pub cause : Rose (before.read_faults name) (after.read_faults name) ⊎ IsAbsent before.files name
   pub kept : after.files ≡ before.files
   pub untried : after.write_faults ≡ before.write_faults
   pub report_is : report ≡ a_report.ReadFault name
@@ -76,7 +76,7 @@ pub record IsUnwritten (is_outcome : List Content → Outcome → Type 0) (job :
   pub bytes : List ℕ
   pub which : slice_get job.outputs place ≡ Some name
   pub bytes_are : slice_get has.outcome.outputs place ≡ Some bytes
-  pub cause : Rose before.write_faults after.write_faults
+  pub cause : Rose (before.write_faults name) (after.write_faults name)
   pub left : LeavesPrefix name bytes
       (option_map (with_files (take place job.outputs) (take place has.outcome.outputs)) before.files) after.files
   pub report_is : report ≡ a_report.WriteFault name

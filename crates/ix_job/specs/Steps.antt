@@ -1,15 +1,15 @@
 -- What the steps of a run come to.
-use Rattle.std.specs.Prelude.{◌≡◌, ◌≤◌, ◌<◌, ◌⊎◌, ℕ, ◌^◌, List, [], length, map, take, Option, Some, None, option_map, slice_get, IsSome, Result, Ok, Err}
+use Rattle.std.specs.Prelude.{◌≡◌, ◌⊎◌, ℕ, List, [], map, take, Option, Some, option_map, slice_get, IsSome, Result, Ok, Err}
 use Rattle.std.specs.List.{AllByRecursion}
-use Rattle.ix_shelf.specs.Shelf.{Files, Rose, IsAbsent, LeavesPrefix}
+use Rattle.ix_shelf.specs.Shelf.{Files, Counts, Rose, IsAbsent, LeavesPrefix}
 use Rattle.ix_job.specs.declared.work.Content.{Content}
 use Rattle.ix_job.specs.declared.inputs.Unread.{Unread}
 use Rattle.ix_job.specs.declared.inputs.Unread.TheVariants.{Fault, Memory}
 use Rattle.ix_report.specs.declared.report.Report.{Report}
 use Rattle.ix_report.specs.declared.report.Report.TheVariants as a_report
 use Rattle.ix_job.specs.declared.run.Ready.{Ready}
-use Rattle.ix_job.specs.Outside.{Outside, KeepsCounts, Tells}
-use Rattle.ix_job.specs.Job.{Name, Content as ContentSeen, Job, Outcome, content_of, AreContents, HasOutcome, with_files, RunsJob}
+use Rattle.ix_job.specs.Outside.{Outside, Tells}
+use Rattle.ix_job.specs.Job.{Name, Content as ContentSeen, Outcome, content_of, AreContents, with_files}
 use Rattle.ix_job.specs.Views.{content_seen}
 
 -- this content was read of the file, where the shelf tells its files
@@ -18,35 +18,28 @@ IsContent told name content = (files : Files) → told ≡ Some files
     → (bytes : List ℕ) × (files name ≡ Some bytes) × (content_seen content ≡ content_of bytes)
 
 -- the input at this place wasn't read
-pub record IsUnreadAt (told : Option Files) (before now : ℕ) (names : List Name) (place : ℕ) : Type 0 where
+pub record IsUnreadAt (told : Option Files) (before now : Counts) (names : List Name) (place : ℕ) : Type 0 where
   pub name : Name
   pub which : slice_get names place ≡ Some name
   pub there : (files : Files) → told ≡ Some files → AllByRecursion (λ other. IsSome (files other)) (take place names)
-  pub cause : Rose before now ⊎ IsAbsent told name
+  pub cause : Rose (before name) (now name) ⊎ IsAbsent told name
 
 -- what reading the inputs comes to
-abbrev pub AreRead : Option Files → (before now : ℕ) → List Name → Result (List Content) Unread → Type 0
+abbrev pub AreRead : Option Files → (before now : Counts) → List Name → Result (List Content) Unread → Type 0
 AreRead told before now names (Ok contents) = (files : Files) → told ≡ Some files → AreContents files names (map content_seen contents)
 AreRead told before now names (Err (Fault place)) = IsUnreadAt told before now names place
 AreRead told before now names (Err Memory) = Unit {0}
 
 -- the output at this place wasn't written, and those before it were
-pub record IsUnwrittenAt (old new : Option Files) (before now : ℕ) (names : List Name) (outputs : List (List ℕ)) (place : ℕ) : Type 0 where
+pub record IsUnwrittenAt (old new : Option Files) (before now : Counts) (names : List Name) (outputs : List (List ℕ)) (place : ℕ) : Type 0 where
   pub name : Name
   pub bytes : List ℕ
   pub which : slice_get names place ≡ Some name
   pub bytes_are : slice_get outputs place ≡ Some bytes
-  pub cause : Rose before now
+  pub cause : Rose (before name) (now name)
   pub left : LeavesPrefix name bytes (option_map (with_files (take place names) (take place outputs)) old) new
 
--- all that is to be written and told was made, for an outcome of the job
-pub record IsReadyFor (is_outcome : List ContentSeen → Outcome → Type 0) (job : Job) (told : Option Files) (r : Ready) : Type 0 where
-  pub has : HasOutcome is_outcome job told
-  pub outputs : r.outputs ≡ has.outcome.outputs
-  pub report : r.done.report ≡ has.outcome.report
-  pub faults : map (λ l. l.report) r.faults.items ≡ map (λ name. a_report.WriteFault name) job.outputs
-
--- the same, made for an outcome of these contents; the names of the inputs don't matter
+-- all that is to be written and told was made, for an outcome of these contents
 pub record IsMadeOf (is_outcome : List ContentSeen → Outcome → Type 0) (contents : List ContentSeen) (outputs : List Name) (r : Ready) : Type 0 where
   pub outcome : Outcome
   pub is : is_outcome contents outcome

@@ -1,7 +1,7 @@
 //! Reading the inputs.
 
-ghost use Rattle.std.specs.Prelude.{◌≡◌, ◌≤◌, ◌⊎◌, map, IfOk, IsErrOf};
-ghost use Rattle.ix_shelf.specs.Shelf.{Rose, IsAbsent};
+ghost use Rattle.std.specs.Prelude.{◌≡◌, ◌⊎◌, map, IfOk, IsErrOf};
+ghost use Rattle.ix_shelf.specs.Shelf.{NoneFalls, Rose, IsAbsent};
 ghost use Rattle.ix_job.specs.Steps.{IsContent, AreRead};
 
 use crate::work::Content;
@@ -28,9 +28,9 @@ enum Missing {
 fn read_input<S: Shelf>(alloc: Global, shelf: &mut S, name: &str) -> Result<Content, Missing>
     ensures files { S.files shelf.new ≡ S.files shelf.old }
     ensures write_faults { S.write_faults shelf.new ≡ S.write_faults shelf.old }
-    ensures read_faults { S.read_faults shelf.old ≤ S.read_faults shelf.new }
+    ensures read_faults { NoneFalls (S.read_faults shelf.old) (S.read_faults shelf.new) }
     ensures content { IfOk result (IsContent (S.files shelf.old) name.now) }
-    ensures cause { IsErrOf result Missing.Fault → Rose (S.read_faults shelf.old) (S.read_faults shelf.new) ⊎ IsAbsent (S.files shelf.old) name.now }
+    ensures cause { IsErrOf result Missing.Fault → Rose (S.read_faults shelf.old name.now) (S.read_faults shelf.new name.now) ⊎ IsAbsent (S.files shelf.old) name.now }
 {
     match read_file(alloc, shelf, name) {
         Ok(bytes) => Ok(Content::Bytes(Bytes::new(bytes))),
@@ -49,7 +49,7 @@ pub(crate) fn read_inputs<S: Shelf>(
 ) -> Result<Items<Content>, Unread>
     ensures files { S.files shelf.new ≡ S.files shelf.old }
     ensures write_faults { S.write_faults shelf.new ≡ S.write_faults shelf.old }
-    ensures read_faults { S.read_faults shelf.old ≤ S.read_faults shelf.new }
+    ensures read_faults { NoneFalls (S.read_faults shelf.old) (S.read_faults shelf.new) }
     ensures read { AreRead (S.files shelf.old) (S.read_faults shelf.old) (S.read_faults shelf.new) (map (λ name. name.now) names.now) result }
 {
     let mut contents = Items::new(alloc);

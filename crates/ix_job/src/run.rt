@@ -1,6 +1,7 @@
 //! The run of a job.
 
 ghost use Rattle.std.specs.Prelude.{◌≡◌, ◌≤◌, ◌<◌, Some, map, slice_get, vec_len, IfOk};
+ghost use Rattle.ix_shelf.specs.Shelf.{NoneFalls};
 ghost use Rattle.ix_job.specs.Outside.{outside, is_done as is_done_seen, Tells};
 ghost use Rattle.ix_job.specs.Job.{RunsJob, job_of};
 ghost use Rattle.ix_job.specs.Views.{content_seen};
@@ -21,7 +22,13 @@ fn is_done(report: &Report) -> bool
     ensures { result ≡ is_done_seen report.now }
 {
     match report {
-        Report::Implemented { .. } => true,
+        Report::Packed { .. }
+        | Report::Placed { .. }
+        | Report::Routed { .. }
+        | Report::Implemented { .. }
+        | Report::Yes { .. }
+        | Report::No { .. }
+        | Report::Demo { .. } => true,
         _ => false,
     }
 }
@@ -118,7 +125,7 @@ fn finish<S: Shelf, O: Sink>(
         (outside S.files S.read_faults S.write_faults O.told O.faults shelf.old out.old)
         (outside S.files S.read_faults S.write_faults O.told O.faults shelf.new out.new) result }
     ensures read_faults { S.read_faults shelf.new ≡ S.read_faults shelf.old }
-    ensures write_faults { S.write_faults shelf.old ≤ S.write_faults shelf.new }
+    ensures write_faults { NoneFalls (S.write_faults shelf.old) (S.write_faults shelf.new) }
     ensures put_faults { O.faults out.old ≤ O.faults out.new }
 {
     let Ready {

@@ -103,3 +103,22 @@ pub record IsJobRun (is_outcome : List Content → Outcome → Type 0) (job : Jo
 abbrev pub RunsJob : {E : Type 0} → (List Content → Outcome → Type 0) → Job → (before after : Outside) → Result reports.Report E → Type 0
 RunsJob is_outcome job before after (Ok report) = IsJobRun is_outcome job before after report stands
 RunsJob is_outcome job before after (Err failed) = (report : reports.Report) × IsJobRun is_outcome job before after report not_put
+
+-- nothing outside has failed
+pub record NothingFailed (before after : Outside) : Type 0 where
+  pub read : (name : Name) → ¬ Rose (before.read_faults name) (after.read_faults name)
+  pub write : (name : Name) → ¬ Rose (before.write_faults name) (after.write_faults name)
+  pub put : ¬ Rose before.put_faults after.put_faults
+
+-- It is told what the contents come to, or that memory is wanting, which may be at any time.
+abbrev pub IsToldOf : {E : Type 0} → (List Content → Outcome → Type 0) → List Content → Result reports.Report E → Type 0
+IsToldOf is_outcome contents (Ok report) =
+    (report ≡ a_report.OutOfMemory) ⊎ ((outcome : Outcome) × is_outcome contents outcome × (report ≡ outcome.report))
+IsToldOf is_outcome contents (Err failed) = ⊥
+
+-- Where the shelf tells its files and has all inputs, and nothing fails, it is told what they come to.
+abbrev pub CompletesJob : {E : Type 0} → (List Content → Outcome → Type 0) → Job → (before after : Outside)
+    → Result reports.Report E → Type 0
+CompletesJob is_outcome job before after result =
+    (files : Files) (contents : List Content) → before.files ≡ Some files → AreContents files job.inputs contents
+    → NothingFailed before after → IsToldOf is_outcome contents result

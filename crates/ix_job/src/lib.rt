@@ -8,7 +8,9 @@ mod inputs;
 mod lines;
 mod outputs;
 mod run;
+mod stop;
 mod work;
 
 pub use run::run_job;
+pub use stop::{Stop, refused};
 pub use work::{Content, Outcome, Work};

@@ -3,7 +3,7 @@
 ghost use Rattle.std.specs.Prelude.{◌≡◌, ◌≤◌, ◌<◌, Some, map, slice_get, vec_len, IfOk};
 ghost use Rattle.ix_shelf.specs.Shelf.{NoneFalls};
 ghost use Rattle.ix_job.specs.Outside.{outside, is_done as is_done_seen, Tells};
-ghost use Rattle.ix_job.specs.Job.{RunsJob, job_of};
+ghost use Rattle.ix_job.specs.Job.{RunsJob, CompletesJob, job_of};
 ghost use Rattle.ix_job.specs.Views.{content_seen};
 ghost use Rattle.ix_job.specs.Steps.{IsMadeOf, TellsEither, Finishes};
 
@@ -155,7 +155,12 @@ pub fn run_job<W: Work, S: Shelf, O: Sink>(
     shelf: &mut S,
     out: &mut O,
 ) -> Result<Report, Failed>
-    ensures { RunsJob (W.is_outcome work.now) (job_of (map (λ name. name.now) inputs.now) (map (λ name. name.now) outputs.now))
+    ensures run { RunsJob (W.is_outcome work.now) (job_of (map (λ name. name.now) inputs.now) (map (λ name. name.now) outputs.now))
+        (outside S.files S.read_faults S.write_faults O.told O.faults shelf.old out.old)
+        (outside S.files S.read_faults S.write_faults O.told O.faults shelf.new out.new) result }
+
+    // It follows that where nothing fails it is told what the inputs come to.
+    ensures complete { CompletesJob (W.is_outcome work.now) (job_of (map (λ name. name.now) inputs.now) (map (λ name. name.now) outputs.now))
         (outside S.files S.read_faults S.write_faults O.told O.faults shelf.old out.old)
         (outside S.files S.read_faults S.write_faults O.told O.faults shelf.new out.new) result }
 {

@@ -1,5 +1,5 @@
 -- The line that the program prints for each answer, and its parts. A line ends with a line feed.
-use Rattle.std.specs.Prelude.{ℕ, List, [], ◌∷◌, ◌++◌, codes}
+use Rattle.std.specs.Prelude.{ℕ, Bool, true, false, List, [], ◌∷◌, ◌++◌, codes}
 use Rattle.std.specs.Fmt.{decimal}
 use Rattle.ix_rec.specs.declared.place.Rule.{Rule}
 use Rattle.ix_rec.specs.declared.place.Rule.TheVariants.{F1, F2, F3, F4, F5, F6, F7, F8, F9, I1, M1, M2, M3, M4, M5, M6, M7, N1, N2, N3, N4, N5, N6, N7, N8, N9, N10, P1, P2, P3, P4, P5, L1, L2, L3, L4, L5, L6, L7, L8, L9, L10, E1, E2, E3}
@@ -75,6 +75,15 @@ place_text (the_place.Element site element) = codes "element " ++ site ++ codes 
 place_text (the_place.Site name) = codes "site " ++ name
 place_text (the_place.Key key) = codes "key " ++ key
 
+abbrev pub packed_text : (cells clusters : ℕ) → List ℕ
+packed_text cells clusters = codes "packed " ++ decimal cells ++ codes " cells in " ++ decimal clusters ++ codes " clusters"
+
+abbrev pub placed_text : (clusters length : ℕ) → List ℕ
+placed_text clusters length = codes "placed " ++ decimal clusters ++ codes " clusters, length " ++ decimal length
+
+abbrev pub routed_text : (nets pips rounds : ℕ) → List ℕ
+routed_text nets pips rounds = codes "routed " ++ decimal nets ++ codes " nets, " ++ decimal pips ++ codes " pips, rounds " ++ decimal rounds
+
 -- how large the design is
 abbrev pub counts_text : (cells clusters nets pips : ℕ) → List ℕ
 counts_text cells clusters nets pips =
@@ -85,6 +94,18 @@ counts_text cells clusters nets pips =
 abbrev pub effort_text : (trial rounds : ℕ) → List ℕ
 effort_text trial rounds = codes ", trial " ++ decimal trial ++ codes ", rounds " ++ decimal rounds
 
+abbrev pub yes_text : (derived : Bool) → List ℕ
+yes_text true = codes "yes, tables derived"
+yes_text false = codes "yes"
+
+abbrev pub demo_text : (number luts flip_flops ports : ℕ) → List ℕ
+demo_text number luts flip_flops ports =
+    codes "demo " ++ decimal number ++ codes ": " ++ decimal luts ++ codes " luts, " ++ decimal flip_flops ++ codes " flip-flops, "
+    ++ decimal ports ++ codes " ports"
+
+abbrev pub broken_text : Rule → places.Place → List ℕ
+broken_text rule place = rule_name rule ++ codes " at " ++ place_text place
+
 abbrev pub needs_text : (cells bels : ℕ) → List ℕ
 needs_text cells bels = codes " needs " ++ decimal cells ++ codes " of " ++ decimal bels
 
@@ -92,15 +113,31 @@ needs_text cells bels = codes " needs " ++ decimal cells ++ codes " of " ++ deci
 abbrev pub few_bels_text : (kind : List ℕ) (cells bels : ℕ) → List ℕ
 few_bels_text kind cells bels = codes "too few bels: " ++ kind ++ needs_text cells bels
 
+-- how much work was done in vain
+abbrev pub in_vain_text : (rounds trial : ℕ) → List ℕ
+in_vain_text rounds trial = codes " after " ++ decimal rounds ++ codes " rounds, trial " ++ decimal trial
+
+abbrev pub shared_text : (node a b : List ℕ) (rounds trial : ℕ) → List ℕ
+shared_text node a b rounds trial = codes "shared: " ++ node ++ codes " by " ++ a ++ codes " and " ++ b ++ in_vain_text rounds trial
+
 -- the line of a report, without its end
 abbrev pub text_of : reports.Report → List ℕ
+text_of (the_report.Packed cells clusters) = packed_text cells clusters
+text_of (the_report.Placed clusters length) = placed_text clusters length
+text_of (the_report.Routed nets pips rounds) = routed_text nets pips rounds
 text_of (the_report.Implemented cells clusters nets pips trial rounds) = counts_text cells clusters nets pips ++ effort_text trial rounds
+text_of (the_report.Yes derived) = yes_text derived
+text_of (the_report.No rule place) = codes "no" ++ codes ": " ++ broken_text rule place
+text_of (the_report.Demo number luts flip_flops ports) = demo_text number luts flip_flops ports
 text_of the_report.Usage = codes "bad words"
-text_of (the_report.Bad file rule place) = file_word file ++ codes ": " ++ rule_name rule ++ codes " at " ++ place_text place
+text_of (the_report.Bad file rule place) = file_word file ++ codes ": " ++ broken_text rule place
 text_of (the_report.NotBuilt file) = codes "not built yet: " ++ file_word file
 text_of the_report.TooLong = codes "output too long"
 text_of (the_report.TooFewBels kind cells bels) = few_bels_text kind cells bels
+text_of (the_report.Unpackable cell) = codes "unpackable: " ++ cell
 text_of (the_report.NoSite cell) = codes "no site: " ++ cell
+text_of (the_report.Unreachable net node) = codes "unreachable: " ++ net ++ codes " at " ++ node
+text_of (the_report.Congested node a b rounds trial) = shared_text node a b rounds trial
 text_of (the_report.ReadFault file) = codes "read fault: " ++ file
 text_of (the_report.WriteFault file) = codes "write fault: " ++ file
 text_of the_report.OutOfMemory = codes "out of memory"

@@ -5,6 +5,29 @@ use ix_rec::{File, Place, Rule, Word};
 /// An answer of the program, with the values that its line shows.
 #[derive(Debug, Drop)]
 pub enum Report {
+    /// `pack` has written its packing.
+    Packed {
+        /// Cells of the flat design.
+        cells: u32,
+        /// Clusters.
+        clusters: u32,
+    },
+    /// `place` has written its netlist.
+    Placed {
+        /// Clusters, as many as sites in use.
+        clusters: u32,
+        /// The total length of the nets.
+        length: u64,
+    },
+    /// `route` has written its netlist.
+    Routed {
+        /// Signal nets of the flat design.
+        nets: u32,
+        /// PIP segments of all nets.
+        pips: u64,
+        /// The rounds that it took.
+        rounds: u32,
+    },
     /// `flow` has written its netlist.
     Implemented {
         /// Cells of the flat design.
@@ -19,6 +42,29 @@ pub enum Report {
         trial: u32,
         /// The rounds that it took.
         rounds: u32,
+    },
+    /// `check` finds no broken rule.
+    Yes {
+        /// A LUT is placed, and the file says nothing of its table.
+        derived: bool,
+    },
+    /// `check` finds a broken rule.
+    No {
+        /// The least rule that is broken.
+        rule: Rule,
+        /// The first place at which it is.
+        place: Place,
+    },
+    /// `demo` has written its device and its design.
+    Demo {
+        /// The number that they are made from.
+        number: u32,
+        /// LUTs of the design.
+        luts: u32,
+        /// Flip-flops of the design.
+        flip_flops: u32,
+        /// Ports of the design.
+        ports: u32,
     },
     /// The words of the command line are refused.
     Usage,
@@ -44,10 +90,35 @@ pub enum Report {
         /// How many BELs of the device's sites admit it.
         bels: u64,
     },
+    /// No site type can take a cell's group, even alone.
+    Unpackable {
+        /// The first cell of the group.
+        cell: Word,
+    },
     /// A cell finds no place.
     NoSite {
         /// The cell.
         cell: Word,
+    },
+    /// No walk leads to a sink.
+    Unreachable {
+        /// The net.
+        net: Word,
+        /// The node at which it has to arrive.
+        node: Word,
+    },
+    /// Two nets hold one node.
+    Congested {
+        /// The node.
+        node: Word,
+        /// The earlier net.
+        a: Word,
+        /// The later net.
+        b: Word,
+        /// The rounds that were made.
+        rounds: u32,
+        /// The trial, from 1.
+        trial: u32,
     },
     /// A file can't be read.
     ReadFault {

@@ -1,6 +1,6 @@
 -- What a shelf in memory holds.
 use Rattle.std.specs.Prelude.{ℕ, List, Option}
-use Rattle.ix_shelf.specs.Shelf.{Files}
+use Rattle.ix_shelf.specs.Shelf.{Files, Counts}
 use Rattle.ix_shelf.specs.MemFiles.{files_in}
 use Rattle.ix_shelf.specs.declared.mem_shelf.MemShelf.{MemShelf}
 
@@ -35,3 +35,10 @@ write_faults_of shelf = shelf.write_faults
 -- how many creates and appends failed because memory ran out
 abbrev pub starved_of : MemShelf → ℕ
 starved_of shelf = shelf.starved
+
+-- the same as counts by name: all are counted together
+abbrev pub read_counts_of : MemShelf → Counts
+read_counts_of shelf name = shelf.read_faults
+
+abbrev pub write_counts_of : MemShelf → Counts
+write_counts_of shelf name = shelf.write_faults

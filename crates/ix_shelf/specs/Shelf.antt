@@ -17,6 +17,14 @@ after_append name piece taken files =
     if taken == 0 && not (length piece == 0) then files
     else with_file name (unwrap_or (files name) [] ++ take taken piece) files
 
+-- How often calls on the file of each name have failed. A shelf that counts them all together has that count for each name.
+abbrev pub Counts : Type 0
+Counts = List ℕ → ℕ
+
+-- no count falls
+abbrev pub NoneFalls : (before now : Counts) → Type 0
+NoneFalls before now = (name : List ℕ) → before name ≤ now name
+
 -- A count of faults rose between two moments. One that stands at the end of its type counts as risen.
 abbrev pub Rose : (before now : ℕ) → Type 0
 Rose before now = min (before + 1) (2 ^ 64 - 1) ≤ now

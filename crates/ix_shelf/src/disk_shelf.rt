@@ -1,7 +1,7 @@
 //! The files of the system as a shelf.
 
 ghost use Rattle.std.specs.Prelude.{◌≡◌, ◌<◌, ◌≤◌, ◌⊎◌, [], length, option_map, IfOk, OnOk, OnErr};
-ghost use Rattle.ix_shelf.specs.Shelf.{with_file, after_append, Rose, IsAbsent, ReadsFile};
+ghost use Rattle.ix_shelf.specs.Shelf.{NoneFalls, with_file, after_append, Rose, IsAbsent, ReadsFile};
 ghost use Rattle.ix_shelf.specs.Faults.{risen, faults_after};
 
 use crate::shelf::{Failed, Shelf};
@@ -55,22 +55,22 @@ fn append_part<R: Files>(rt: &R, name: &str, piece: &[u8]) -> io::Result<usize>
 }
 
 impl<R: Files> Shelf for DiskShelf<'_, R> {
-    ghost use Rattle.ix_shelf.specs.DiskShelf.{files_of, read_faults_of, write_faults_of};
+    ghost use Rattle.ix_shelf.specs.DiskShelf.{files_of, read_faults_of, write_faults_of, read_counts_of, write_counts_of};
 
     ghost files = { λ shelf. files_of shelf };
 
-    ghost read_faults = { λ shelf. read_faults_of shelf };
+    ghost read_faults = { λ shelf. read_counts_of shelf };
 
-    ghost write_faults = { λ shelf. write_faults_of shelf };
+    ghost write_faults = { λ shelf. write_counts_of shelf };
 
     /// As of every shelf. Where it fails, and only there, the count of read faults rises, by one.
     fn read_at(&mut self, name: &str, at: u64, into: &mut [u8]) -> Result<usize, Failed>
         ensures files { files_of self.new ≡ files_of self.old }
-        ensures write_faults { write_faults_of self.new ≡ write_faults_of self.old }
-        ensures read_faults { read_faults_of self.old ≤ read_faults_of self.new }
+        ensures write_faults { write_counts_of self.new ≡ write_counts_of self.old }
+        ensures read_faults { NoneFalls (read_counts_of self.old) (read_counts_of self.new) }
         ensures room { IfOk result (λ n. n ≤ length into.old) }
         ensures bytes { IfOk result (λ n. ReadsFile (files_of self.old) name.now at (length into.old) into.new n) }
-        ensures cause { OnErr result (Rose (read_faults_of self.old) (read_faults_of self.new) ⊎ IsAbsent (files_of self.old) name.now) }
+        ensures cause { OnErr result (Rose (read_counts_of self.old name.now) (read_counts_of self.new name.now) ⊎ IsAbsent (files_of self.old) name.now) }
 
         ensures ok { OnOk result (read_faults_of self.new ≡ read_faults_of self.old) }
         ensures err { OnErr result (read_faults_of self.new ≡ risen (read_faults_of self.old)) }
@@ -86,11 +86,11 @@ impl<R: Files> Shelf for DiskShelf<'_, R> {
 
     /// As of every shelf. Where it fails, and only there, the count of write faults rises, by one.
     fn create(&mut self, name: &str) -> Result<(), Failed>
-        ensures read_faults { read_faults_of self.new ≡ read_faults_of self.old }
-        ensures write_faults { write_faults_of self.old ≤ write_faults_of self.new }
+        ensures read_faults { read_counts_of self.new ≡ read_counts_of self.old }
+        ensures write_faults { NoneFalls (write_counts_of self.old) (write_counts_of self.new) }
         ensures made { OnOk result (files_of self.new ≡ option_map (with_file name.now []) (files_of self.old)) }
         ensures unchanged { OnErr result (files_of self.new ≡ files_of self.old) }
-        ensures cause { OnErr result (Rose (write_faults_of self.old) (write_faults_of self.new)) }
+        ensures cause { OnErr result (Rose (write_counts_of self.old name.now) (write_counts_of self.new name.now)) }
 
         ensures ok { OnOk result (write_faults_of self.new ≡ write_faults_of self.old) }
         ensures err { OnErr result (write_faults_of self.new ≡ risen (write_faults_of self.old)) }
@@ -107,13 +107,13 @@ impl<R: Files> Shelf for DiskShelf<'_, R> {
     /// As of every shelf. Where it fails, or takes nothing of a piece that isn't empty, and only there, the count of
     /// write faults rises, by one.
     fn append(&mut self, name: &str, piece: &[u8]) -> Result<usize, Failed>
-        ensures read_faults { read_faults_of self.new ≡ read_faults_of self.old }
-        ensures write_faults { write_faults_of self.old ≤ write_faults_of self.new }
+        ensures read_faults { read_counts_of self.new ≡ read_counts_of self.old }
+        ensures write_faults { NoneFalls (write_counts_of self.old) (write_counts_of self.new) }
         ensures taken { IfOk result (λ n. n ≤ length piece.now) }
         ensures added { IfOk result (λ n. files_of self.new ≡ option_map (after_append name.now piece.now n) (files_of self.old)) }
-        ensures nothing { IfOk result (λ n. n ≡ 0 → 0 < length piece.now → Rose (write_faults_of self.old) (write_faults_of self.new)) }
+        ensures nothing { IfOk result (λ n. n ≡ 0 → 0 < length piece.now → Rose (write_counts_of self.old name.now) (write_counts_of self.new name.now)) }
         ensures unchanged { OnErr result (files_of self.new ≡ files_of self.old) }
-        ensures cause { OnErr result (Rose (write_faults_of self.old) (write_faults_of self.new)) }
+        ensures cause { OnErr result (Rose (write_counts_of self.old name.now) (write_counts_of self.new name.now)) }
 
         ensures count { write_faults_of self.new ≡ faults_after result piece.now (write_faults_of self.old) }
     {

@@ -1,7 +1,7 @@
 //! A shelf in memory.
 
 ghost use Rattle.std.specs.Prelude.{◌≡◌, ◌<◌, ◌≤◌, ◌⊎◌, ◌++◌, ◌∷◌, [], ℕ, List, length, Option, Some, None, option_map, option_copied, IsSome, Ok, IsOk, IsErr, IfOk, OnOk, OnErr};
-ghost use Rattle.ix_shelf.specs.Shelf.{Files, with_file, after_append, Rose, IsAbsent, ReadsFile};
+ghost use Rattle.ix_shelf.specs.Shelf.{Files, NoneFalls, with_file, after_append, Rose, IsAbsent, ReadsFile};
 ghost use Rattle.ix_shelf.specs.Faults.{risen, within, faults_after, IsNamed, TakesNothing};
 ghost use Rattle.ix_shelf.specs.MemFiles.{given_at};
 
@@ -127,23 +127,23 @@ impl MemShelf {
 }
 
 impl Shelf for MemShelf {
-    ghost use Rattle.ix_shelf.specs.MemShelf.{files_of, calls_of, failing_of, nothing_of, limit_of, read_faults_of, write_faults_of, starved_of};
+    ghost use Rattle.ix_shelf.specs.MemShelf.{files_of, calls_of, failing_of, nothing_of, limit_of, read_faults_of, write_faults_of, read_counts_of, write_counts_of, starved_of};
 
     ghost files = { λ shelf. Some (files_of shelf) };
 
-    ghost read_faults = { λ shelf. read_faults_of shelf };
+    ghost read_faults = { λ shelf. read_counts_of shelf };
 
-    ghost write_faults = { λ shelf. write_faults_of shelf };
+    ghost write_faults = { λ shelf. write_counts_of shelf };
 
     /// As of every shelf. The number of the next call rises by one. A call that is to fail does, and counts as a read
     /// fault; another one fails where there is no such file, which counts as none, and gives all that its limit lets it else.
     fn read_at(&mut self, name: &str, at: u64, into: &mut [u8]) -> Result<usize, Failed>
         ensures files { Some (files_of self.new) ≡ Some (files_of self.old) }
-        ensures write_faults { write_faults_of self.new ≡ write_faults_of self.old }
-        ensures read_faults { read_faults_of self.old ≤ read_faults_of self.new }
+        ensures write_faults { write_counts_of self.new ≡ write_counts_of self.old }
+        ensures read_faults { NoneFalls (read_counts_of self.old) (read_counts_of self.new) }
         ensures room { IfOk result (λ n. n ≤ length into.old) }
         ensures bytes { IfOk result (λ n. ReadsFile (Some (files_of self.old)) name.now at (length into.old) into.new n) }
-        ensures cause { OnErr result (Rose (read_faults_of self.old) (read_faults_of self.new) ⊎ IsAbsent (Some (files_of self.old)) name.now) }
+        ensures cause { OnErr result (Rose (read_counts_of self.old name.now) (read_counts_of self.new name.now) ⊎ IsAbsent (Some (files_of self.old)) name.now) }
 
         ensures number { calls_of self.new ≡ risen (calls_of self.old) }
         ensures plan { failing_of self.new ≡ failing_of self.old }
@@ -170,11 +170,11 @@ impl Shelf for MemShelf {
     /// As of every shelf. The number of the next call rises by one. A call that is to fail does; another one makes the
     /// file empty, or fails because memory ran out for a new one, which counts as a write fault and as starved.
     fn create(&mut self, name: &str) -> Result<(), Failed>
-        ensures read_faults { read_faults_of self.new ≡ read_faults_of self.old }
-        ensures write_faults { write_faults_of self.old ≤ write_faults_of self.new }
+        ensures read_faults { read_counts_of self.new ≡ read_counts_of self.old }
+        ensures write_faults { NoneFalls (write_counts_of self.old) (write_counts_of self.new) }
         ensures made { OnOk result (Some (files_of self.new) ≡ option_map (with_file name.now []) (Some (files_of self.old))) }
         ensures unchanged { OnErr result (Some (files_of self.new) ≡ Some (files_of self.old)) }
-        ensures cause { OnErr result (Rose (write_faults_of self.old) (write_faults_of self.new)) }
+        ensures cause { OnErr result (Rose (write_counts_of self.old name.now) (write_counts_of self.new name.now)) }
 
         ensures number { calls_of self.new ≡ risen (calls_of self.old) }
         ensures plan { failing_of self.new ≡ failing_of self.old }
@@ -206,13 +206,13 @@ impl Shelf for MemShelf {
     /// of a piece that isn't empty takes nothing; another one takes all of its piece that its limit lets it, or fails because
     /// memory ran out for it, which counts as a write fault and as starved.
     fn append(&mut self, name: &str, piece: &[u8]) -> Result<usize, Failed>
-        ensures read_faults { read_faults_of self.new ≡ read_faults_of self.old }
-        ensures write_faults { write_faults_of self.old ≤ write_faults_of self.new }
+        ensures read_faults { read_counts_of self.new ≡ read_counts_of self.old }
+        ensures write_faults { NoneFalls (write_counts_of self.old) (write_counts_of self.new) }
         ensures taken { IfOk result (λ n. n ≤ length piece.now) }
         ensures added { IfOk result (λ n. Some (files_of self.new) ≡ option_map (after_append name.now piece.now n) (Some (files_of self.old))) }
-        ensures nothing { IfOk result (λ n. n ≡ 0 → 0 < length piece.now → Rose (write_faults_of self.old) (write_faults_of self.new)) }
+        ensures nothing { IfOk result (λ n. n ≡ 0 → 0 < length piece.now → Rose (write_counts_of self.old name.now) (write_counts_of self.new name.now)) }
         ensures unchanged { OnErr result (Some (files_of self.new) ≡ Some (files_of self.old)) }
-        ensures cause { OnErr result (Rose (write_faults_of self.old) (write_faults_of self.new)) }
+        ensures cause { OnErr result (Rose (write_counts_of self.old name.now) (write_counts_of self.new name.now)) }
 
         ensures number { calls_of self.new ≡ risen (calls_of self.old) }
         ensures plan { failing_of self.new ≡ failing_of self.old }

@@ -1,0 +1,4 @@
+pub mod Setting
+pub mod FaultLines
+pub mod Ending
+pub mod Complete

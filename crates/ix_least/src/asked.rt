@@ -1,6 +1,7 @@
 //! What a search is asked: a graph, what its points cost, and bounds on the way that is left.
 
-ghost use Rattle.std.specs.Prelude.{◌≡◌, ℕ, ◌^◌, ◌<◌, ◌≤◌, List, length, Option, Some, IfSome, slice_get};
+ghost use Rattle.std.specs.Prelude.{◌≡◌, ℕ, ◌^◌, ◌<◌, ◌≤◌, List, length, Option, Some};
+ghost use Rattle.std.specs.Prelude.{IfSome, slice_get};
 
 /// A graph: points, numbered from 0, and the edges out of each.
 ///

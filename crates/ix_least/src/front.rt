@@ -6,10 +6,12 @@
 //! enter another is settled before it, also where keys reach the end of their type, and the tie
 //! rule is met as soon as the target is taken.
 
-ghost use Rattle.std.specs.Prelude.{◌≡◌, ◌≢◌, ℕ, ◌+◌, ◌*◌, ◌^◌, ◌<◌, ◌≤◌, List, [], length, All, OnOk, IfOk, MatchBool};
+ghost use Rattle.std.specs.Prelude.{◌≡◌, ◌≢◌, ℕ, ◌+◌, ◌*◌, ◌^◌, ◌<◌, ◌≤◌, List, [], length};
+ghost use Rattle.std.specs.Prelude.{All, OnOk, IfOk, MatchBool};
 ghost use Rattle.ix_least.specs.Walks.{Question, HasWalk, IsLeastPath, IsLeastWalk, asked};
 ghost use Rattle.ix_least.specs.Labels.{open_weight};
-ghost use Rattle.ix_least.specs.Settling.{key_of, IsOffered, LeavesUpTo, IsStarted, IsFound, IsRising};
+ghost use Rattle.ix_least.specs.Settling.{key_of, IsOffered, LeavesUpTo, IsStarted, IsFound};
+ghost use Rattle.ix_least.specs.Settling.{IsRising};
 
 use crate::asked::{Bounds, Costs, Edges};
 use crate::labels::{Label, Labels};

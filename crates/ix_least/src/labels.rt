@@ -1,6 +1,7 @@
 //! What a search knows of each point.
 
-ghost use Rattle.std.specs.Prelude.{◌≡◌, ℕ, ◌<◌, ◌^◌, List, [], Some, None, false, true, All, length, map, replicate, slice_get, slice_set, IfOk, IfSome, IfNone};
+ghost use Rattle.std.specs.Prelude.{◌≡◌, ℕ, ◌<◌, ◌^◌, List, [], Some, None, false, true, All};
+ghost use Rattle.std.specs.Prelude.{length, map, replicate, slice_get, slice_set, IfOk, IfSome, IfNone};
 
 use ix_num::Memory;
 use std::alloc::Global;

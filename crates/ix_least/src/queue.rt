@@ -22,7 +22,8 @@ pub(crate) struct Entry {
 
 // The greatest entry is the one with the least key, and of these the one with the least cost.
 impl Ord for Entry {
-    ghost cmp = { then_cmp (flip_args (on (λ e. e.key) nat_cmp)) (then_cmp (flip_args (on (λ e. e.dist) nat_cmp)) (on (λ e. e.point) nat_cmp)) };
+    ghost cmp = { then_cmp (flip_args (on (λ e. e.key) nat_cmp))
+        (then_cmp (flip_args (on (λ e. e.dist) nat_cmp)) (on (λ e. e.point) nat_cmp)) };
 
     ghost total = { Prim.search (comparing, rules) depth 9 };
 
@@ -41,9 +42,11 @@ impl Ord for Entry {
 }
 
 impl PartialOrd for Entry {
-    ghost partial_cmp = { as_partial_cmp (then_cmp (flip_args (on (λ e. e.key) nat_cmp)) (then_cmp (flip_args (on (λ e. e.dist) nat_cmp)) (on (λ e. e.point) nat_cmp))) };
+    ghost partial_cmp = { as_partial_cmp (then_cmp (flip_args (on (λ e. e.key) nat_cmp))
+        (then_cmp (flip_args (on (λ e. e.dist) nat_cmp)) (on (λ e. e.point) nat_cmp))) };
 
-    ghost laws = { partial_order_from_own_ties (Prim.search (comparing, rules) depth 9) (Prim.search (comparing, rules) depth 9) };
+    ghost laws = { partial_order_from_own_ties (Prim.search (comparing, rules) depth 9)
+        (Prim.search (comparing, rules) depth 9) };
 
     fn partial_cmp(&self, other: &Entry) -> Option<Ordering> {
         Some(self.cmp(other))
@@ -76,9 +79,11 @@ impl Ord for Near {
 }
 
 impl PartialOrd for Near {
-    ghost partial_cmp = { as_partial_cmp (then_cmp (flip_args (on (λ e. e.dist) nat_cmp)) (on (λ e. e.point) nat_cmp)) };
+    ghost partial_cmp = { as_partial_cmp (then_cmp (flip_args (on (λ e. e.dist) nat_cmp))
+        (on (λ e. e.point) nat_cmp)) };
 
-    ghost laws = { partial_order_from_own_ties (Prim.search (comparing, rules)) (Prim.search (comparing, rules)) };
+    ghost laws = { partial_order_from_own_ties (Prim.search (comparing, rules))
+        (Prim.search (comparing, rules)) };
 
     fn partial_cmp(&self, other: &Near) -> Option<Ordering> {
         Some(self.cmp(other))

@@ -15,8 +15,8 @@ use std::marker::Model;
 /// Searches of least paths in graphs of one number of points. In contracts it is that number: what
 /// was searched before changes no answer.
 ///
-/// It keeps 24 bytes a point, and what the queue took at its longest: 16 bytes an entry, or 24 where
-/// bounds are given.
+/// It keeps 24 bytes a point, and what the queue took at its longest: 16 bytes an entry, or 24
+/// where bounds are given.
 #[derive(Drop)]
 pub struct Search {
     labels: Labels,

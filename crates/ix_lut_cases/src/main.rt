@@ -2,12 +2,13 @@
 //! on its BEL with its element's table, or a table whose inputs change places, and a line for each
 //! tells the plan, the function or the table.
 //!
-//! The fields of a case, with bars between, are what it shows, the call, and what the call is given:
+//! The fields of a case, with bars between, are what it shows, the call, and what the call is
+//! given:
 //!
 //! - `element | lines | BELs | cells`: how many lines there are, the BELs, and the LUT cells
-//! - `function | lines | BELs | table | BEL | places | ties`: the element's table, the cell's BEL by
-//!   its place, the place of each of the cell's inputs among the BEL's, and for each line `0`, `1`
-//!   or `-`, the constant that holds it
+//! - `function | lines | BELs | table | BEL | places | ties`: the element's table, the cell's BEL
+//!   by its place, the place of each of the cell's inputs among the BEL's, and for each line `0`,
+//!   `1` or `-`, the constant that holds it
 //! - `permute | table | inputs | places`: a table, the number of its inputs, and the new place of
 //!   each
 //!

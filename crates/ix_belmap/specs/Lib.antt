@@ -1,0 +1,3 @@
+pub mod Counts
+-- For private contracts and proofs.
+pub mod Sites

@@ -1,13 +1,13 @@
 -- Adding texts to the names, one after the other.
-use Rattle.std.proofs.Common.{◌≡◌, ◌≤◌, ◌<◌, ◌+◌, ◌-◌, ◌^◌, ◌⊎◌, inl, inr, ℕ, Bool, true, false, ◌||◌, List, [], ◌∷◌, ◌++◌, length, take, drop, map, slice_get, Contains, refl, sym, ap, subst, ◌∙◌, arith, length-append, add-one, drop-cons}
-use Rattle.std.specs.Prelude.{Some, Result, Ok, Err, IfOk, OnOk, OnErr, IsErr, option_map}
+use Rattle.std.proofs.Common.{◌≡◌, ◌≤◌, ◌<◌, ◌+◌, ◌⊎◌, inl, inr, ℕ, Bool, true, false, ◌||◌, List, [], ◌∷◌, ◌++◌, length, take, drop, slice_get, Contains, refl, sym, ap, subst, ◌∙◌, arith, length-append, add-one, drop-cons}
+use Rattle.std.specs.Prelude.{Some, Result, Ok, Err, IfOk, OnOk, OnErr, IsErr}
 use Rattle.std.specs.List.{AllByRecursion, flat_map, list_any}
 use Rattle.std.specs.Str.{bytes_eq}
 use Rattle.std.proofs.lemmas.Grind.{flat_map-append}
 use Rattle.std.proofs.lemmas.List.{append-nil, take-append-drop, take_more, take_all}
 use Rattle.std.proofs.lemmas.List.Folds.{list_any-append}
 use Rattle.std.proofs.lemmas.List.Sums.{sum_by-append}
-use Rattle.std.proofs.lemmas.Option.{slice_get-get_or, slice_get_within, get_or_from_slice_get, slice_get-map}
+use Rattle.std.proofs.lemmas.Option.{slice_get-get_or, slice_get_within, get_or_from_slice_get}
 use Rattle.ix_message.specs.Shape.{Text}
 use Rattle.ix_strings.specs.Names.{has_name, with_name, KeepsNumbers}
 use Rattle.ix_strings.proofs.TableLemmas.{IsFound-number_of, with_name-known, with_name-new, length-with_name, KeepsNumbers-with_name}

@@ -134,7 +134,8 @@ impl<'a> At<'a> {
         }
     }
 
-    /// The BEL pins of the site type around that the list of numbers behind this pointer has, which is this field.
+    /// The BEL pins of the site type around that the list of numbers behind this pointer has, which
+    /// is this field.
     pub fn bel_pins(
         &self,
         ctx: &Context<'_>,
@@ -193,7 +194,8 @@ impl<'a> At<'a> {
         }
     }
 
-    /// The numbers of the list behind this pointer, which is this field, where each is below the length of its list.
+    /// The numbers of the list behind this pointer, which is this field, where each is below the
+    /// length of its list.
     pub fn indexes(
         &self,
         ctx: &Context<'_>,

@@ -110,8 +110,8 @@ fn device_context<'n>(
     }
 }
 
-/// The record that a device's root makes, with the names of its string table and all its texts among the names, or the
-/// first number that is out of its list, in reading order.
+/// The record that a device's root makes, with the names of its string table and all its texts
+/// among the names, or the first number that is out of its list, in reading order.
 pub fn take_device(
     alloc: Global,
     names: &Names,

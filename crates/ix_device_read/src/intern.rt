@@ -19,7 +19,8 @@ pub trait HasTexts: Sized {
 
     ghost form: { Struct };
 
-    /// Adds these texts to the names, in reading order. `Memory` is its only error, after which some were added.
+    /// Adds these texts to the names, in reading order. `Memory` is its only error, after which
+    /// some were added.
     fn add_texts(o: Obj<'_>, names: &mut Names) -> Result<(), Memory>
         requires { HasRoom (loose_texts form (said form (object_of o))) names.old }
         ensures { Adds result (loose_texts form (said form (object_of o.entry))) names.old names.new };

@@ -58,7 +58,8 @@ fn out_of_list(alloc: Global, kind: usize, field: usize, index: u32) -> ReadFaul
     })
 }
 
-/// Adds the texts of a device to the names, those of the string table first, and gives the numbers of these.
+/// Adds the texts of a device to the names, those of the string table first, and gives the numbers
+/// of these.
 fn add_names(alloc: Global, root: Obj<'_>, names: &mut Names) -> Result<Items<NameId>, Memory>
     requires { HasRoom (table_said device (object_of root) ++ loose_texts device (said device (object_of root))) names.old }
     ensures adds { Adds result (table_said device (object_of root.entry) ++ loose_texts device (said device (object_of root.entry))) names.old names.new }
@@ -70,7 +71,8 @@ fn add_names(alloc: Global, root: Obj<'_>, names: &mut Names) -> Result<Items<Na
     Ok(strings)
 }
 
-/// The record that a device's root makes once its texts are names, or its first number that is out of its list.
+/// The record that a device's root makes once its texts are names, or its first number that is out
+/// of its list.
 fn take_named(
     alloc: Global,
     names: &Names,
@@ -91,11 +93,12 @@ fn take_named(
     }
 }
 
-/// The record of a frame's device resources, whose texts are added to the names. Else the first rule that the whole frame
-/// breaks, in reading order, and after that the first index, enumerant or tag that is out of its list.
+/// The record of a frame's device resources, whose texts are added to the names. Else the first
+/// rule that the whole frame breaks, in reading order, and after that the first index, enumerant or
+/// tag that is out of its list.
 ///
-/// At most 2^28 + 66 names are added, also where there is no record, and each name keeps its number. No list of the record
-/// has more than 2^28 + 64 entries.
+/// At most 2^28 + 66 names are added, also where there is no record, and each name keeps its
+/// number. No list of the record has more than 2^28 + 64 entries.
 pub fn read_device(
     alloc: Global,
     frame: &Frame<'_>,

@@ -27,8 +27,8 @@ pub trait Take: Sized + Drop {
 
     ghost named: { ℕ → Self → Type 0 };
 
-    /// The part of the record that this struct makes, or the first of its numbers that is out of its list, in reading
-    /// order.
+    /// The part of the record that this struct makes, or the first of its numbers that is out of
+    /// its list, in reading order.
     fn take(o: Obj<'_>, ctx: &Context<'_>, scope: Scope, walk: &mut Walk) -> Result<Self, Stop>
         ensures made { MeetsWith (record_by ctx.now.names.now) result walk.new (finish_at shape (sizes_of ctx.now scope) (said shape (object_of o.entry)) walk.old) }
         ensures named { IfOk result (named (limit_of ctx.now)) };

@@ -8,11 +8,16 @@ use Rattle.std.proofs.lemmas.List.{append-nil, take-append-drop, take_more, take
 use Rattle.std.proofs.lemmas.List.Folds.{list_any-append}
 use Rattle.std.proofs.lemmas.List.Sums.{sum_by-append}
 use Rattle.std.proofs.lemmas.Option.{slice_get-get_or, slice_get_within, get_or_from_slice_get}
-use Rattle.ix_message.specs.Shape.{Text}
+use Rattle.ix_num.specs.declared.fault.FrameFault.{FrameFault}
+use Rattle.ix_rec.specs.declared.fault.ReadFault.{ReadFault}
+use Rattle.ix_rec.specs.declared.fault.ReadFault.TheVariants.{Frame as BadFrame, Index, Memory as NoMemory}
+use Rattle.ix_message.specs.Shape.{Text, Struct, Value}
+use Rattle.ix_message_read.specs.Tells.{Fails}
+use Rattle.ix_device_read.specs.Adding.{texts_in, AddsExactly}
 use Rattle.ix_strings.specs.Names.{has_name, with_name, KeepsNumbers}
 use Rattle.ix_strings.proofs.TableLemmas.{IsFound-number_of, with_name-known, with_name-new, length-with_name, KeepsNumbers-with_name}
 use Rattle.ix_device_read.specs.Premises.{IsKnown}
-use Rattle.ix_device_read.specs.Loose.{paid_text, reach, HasRoom, Grows, Knows, Adds, AreNumbersOf}
+use Rattle.ix_device_read.specs.Loose.{loose_texts, paid_text, reach, with_names, HasRoom, Grows, Knows, Adds, AreNumbersOf}
 
 either : (b : Bool) → (b ≡ true) ⊎ (b ≡ false)
 either true = inl refl
@@ -95,8 +100,13 @@ grows_on xs ys old now new h k = record {
   most = omega (arith, h.most, k.most, sum_by-append paid_text xs ys);
 }
 
+with_names-append : (names xs ys : List Text) → with_names names (xs ++ ys) ≡ with_names (with_names names xs) ys
+with_names-append names [] ys = refl
+with_names-append names (x ∷ xs) ys = with_names-append (with_name names x) xs ys
+
 pub knows_on : (xs ys old now new : List Text) → Knows xs old now → Knows ys now new → Knows (xs ++ ys) old new
 knows_on xs ys old now new h k = record {
+  exact = k.exact ∙ ap (λ (names : List Text). with_names names ys) h.exact ∙ sym (with_names-append old xs ys);
   grows = grows_on xs ys old now new h.grows k.grows;
   known = all-append new xs ys (all_keep now new k.grows.keeps xs h.known) k.known;
 }
@@ -107,6 +117,7 @@ grows_front xs ys old now h = grows_on xs ys old now now h (grows_same ys now)
 
 pub knows_text : (names : List Text) (t : Text) (id : ℕ) (new : List Text) → new ≡ with_name names t → slice_get new id ≡ Some t → Knows (t ∷ []) names new
 knows_text names t id new is at = record {
+  exact = is;
   grows = record {
     keeps = subst (KeepsNumbers names) (sym is) (KeepsNumbers-with_name names t);
     most = let h = reach-with_name names t in subst (λ (ns : List Text). reach ns ≤ reach names + (0 + paid_text t)) (sym is) (omega arith);
@@ -191,3 +202,19 @@ numbers-push names [] [] id t h at = (at, tt)
 numbers-push names [] (u ∷ us) id t h at = absurd h
 numbers-push names (i ∷ is) [] id t h at = absurd h
 numbers-push names (i ∷ is) (u ∷ us) id t h at = (h.0, numbers-push names is us id t h.1 at)
+
+-- What a whole reading adds.
+
+pub none_added : (X : Type 0) (s : Struct) (e : ReadFault) (given : Result (List Text × Value ℕ s) FrameFault) (names : List Text) → Fails e given → AddsExactly {X = X} (Err e) (texts_in s given) names names
+unfolding texts_in AddsExactly
+none_added X s NoMemory given names h = tt
+none_added X s (BadFrame f) given names h = rw h refl
+none_added X s (Index p) given names h = absurd h
+
+pub all_texts_added : {X : Type 0} (r : Result X ReadFault) (s : Struct) (table : List Text) (v : Value ℕ s) (given : Result (List Text × Value ℕ s) FrameFault) (old new : List Text)
+    → given ≡ Ok (table, v) → Knows (table ++ loose_texts s v) old new → AddsExactly r (texts_in s given) old new
+unfolding texts_in AddsExactly
+all_texts_added (Ok x) s table v given old new is h = rw is h.exact
+all_texts_added (Err NoMemory) s table v given old new is h = tt
+all_texts_added (Err (BadFrame f)) s table v given old new is h = rw is h.exact
+all_texts_added (Err (Index p)) s table v given old new is h = rw is h.exact

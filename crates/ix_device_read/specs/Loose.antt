@@ -47,8 +47,14 @@ pub record Grows (ts old new : List Text) : Type 0 where
   pub keeps : KeepsNumbers old new
   pub most : reach new ≤ reach old + paid_texts ts
 
+-- the names once these texts were added, one after the other; a text that is one of the names already changes nothing
+abbrev pub with_names : List Text → List Text → List Text
+with_names names [] = names
+with_names names (t ∷ ts) = with_names (with_name names t) ts
+
 -- These texts are names now.
 pub record Knows (ts old new : List Text) : Type 0 where
+  pub exact : new ≡ with_names old ts
   pub grows : Grows ts old new
   pub known : AllByRecursion (IsKnown new) ts
 

@@ -9,6 +9,7 @@ ghost use Rattle.ix_strings.specs.Names.{KeepsNumbers};
 ghost use Rattle.ix_rec.specs.Ranges.{IndexesFit};
 ghost use Rattle.ix_schema.specs.Said.{said, table_said};
 ghost use Rattle.ix_schema.specs.Splitting.{PassesMessage};
+ghost use Rattle.ix_device_read.specs.Adding.{texts_in, AddsExactly};
 ghost use Rattle.ix_device_read.specs.Faults.{TellsField};
 ghost use Rattle.ix_device_read.specs.Long.{ListsWithin};
 ghost use Rattle.ix_device_read.specs.Loose.{loose_texts, Adds, AreNumbersOf, HasRoom};
@@ -97,8 +98,9 @@ fn take_named(
 /// rule that the whole frame breaks, in reading order, and after that the first index, enumerant or
 /// tag that is out of its list.
 ///
-/// At most 2^28 + 66 names are added, also where there is no record, and each name keeps its
-/// number. No list of the record has more than 2^28 + 64 entries.
+/// The texts of the string table are added first, then those behind pointers in reading order, each unless it is a name;
+/// none where the frame breaks a rule. At most 2^28 + 66 names are added, also where memory is wanting, and each name keeps
+/// its number. No list of the record has more than 2^28 + 64 entries.
 pub fn read_device(
     alloc: Global,
     frame: &Frame<'_>,
@@ -111,6 +113,7 @@ pub fn read_device(
     ensures fits { IfOk result IndexesFit }
     ensures keeps { KeepsNumbers names.old names.new }
     ensures most { length names.new ≤ length names.old + 2 ^ 28 + 66 }
+    ensures adds { AddsExactly result (texts_in device (numbers_in_segments device (segments_of frame.now))) names.old names.new }
 {
     let root = match pass_device(alloc, frame) {
         Ok(root) => root,

@@ -1,0 +1,6 @@
+pub mod Counts
+pub mod Groups
+pub mod Pins
+-- For private contracts and proofs.
+pub mod Marks
+pub mod Failing

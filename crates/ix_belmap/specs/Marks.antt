@@ -1,0 +1,93 @@
+-- What is known while cells are counted and grouped.
+use Rattle.std.specs.Prelude.{◌≡◌, ◌<◌, ℕ, List, [], ◌∷◌, ◌++◌, ◌-◌, ◌≤◌, if◌then◌else◌, length, map, take, slice_get, slice_index_or, Bool, true, false, not, ◌&&◌, ◌||◌, nat_eq, Option, Some, None, option_map, option_and_then, unwrap_or, IfSome, Vec}
+use Rattle.std.specs.Global.{Global}
+use Rattle.std.specs.HashMap.{get}
+use Rattle.std.specs.List.{filter, list_any, AllByRecursion}
+use Rattle.ix_keys.specs.Keys.{key}
+use Rattle.ix_first.specs.declared.by_key.FirstByKey.{FirstByKey}
+use Rattle.ix_first.specs.First.{value_at}
+use Rattle.ix_rec.specs.declared.device.DeviceRec.{DeviceRec}
+use Rattle.ix_rec.specs.declared.flow.Flat.{Flat}
+use Rattle.ix_device.specs.Lookups.{sites_of, type_of_site}
+use Rattle.ix_belmap.specs.declared.cells.CellCounts.{CellCounts}
+use Rattle.ix_belmap.specs.declared.marks.Passed.{Passed}
+use Rattle.ix_belmap.specs.declared.marks.Marks.{Marks}
+use Rattle.ix_belmap.specs.Counts.{count_below}
+use Rattle.ix_belmap.specs.Groups.{is_on, is_on_net_of, stays_with, type_of, types_go, inner_cells}
+
+-- the count of a cell type
+abbrev pub of_type : CellCounts → ℕ → Option ℕ
+of_type counts ty = get nat_eq counts.counts ty
+
+abbrev pub is_of_type : DeviceRec → (t site : ℕ) → Bool
+is_of_type rec t site = unwrap_or (option_map (nat_eq t) (type_of_site rec site)) false
+
+-- how many sites are of a site type
+unfoldable pub sites_of_type : DeviceRec → (t : ℕ) → ℕ
+sites_of_type rec t = count_below (is_of_type rec t) (length (sites_of rec))
+
+-- the numbers of sites of all site types
+pub record AreSiteCounts (rec : DeviceRec) (counts : List ℕ) : Type 0 where
+  pub count : length counts ≡ length rec.site_type_list
+  pub each : (t : ℕ) → t < length rec.site_type_list → slice_get counts t ≡ Some (sites_of_type rec t)
+
+-- what the table keeps of two types is so
+abbrev pub Knows : DeviceRec → FirstByKey Bool → Type 0
+Knows rec known = (port_type ty : ℕ) → IfSome (value_at known (key port_type ty 0)) (λ stays. stays ≡ stays_with rec port_type ty)
+
+-- whether a cell is marked as being in a group
+abbrev pub is_marked : List Bool → (cell : ℕ) → Bool
+is_marked marks cell = slice_index_or marks cell false
+
+-- the cell's type stays with the port cell's, and the cell isn't marked
+abbrev pub is_free_for : DeviceRec → Flat → List Bool → (port_type cell : ℕ) → Bool
+is_free_for rec flat marks port_type cell =
+    unwrap_or (option_map (stays_with rec port_type) (type_of flat cell)) false && not (is_marked marks cell)
+
+-- the cells of a row that may still be taken
+abbrev pub free_of : DeviceRec → Flat → List Bool → (port_type : ℕ) → List ℕ → List ℕ
+free_of rec flat marks port_type row = filter (is_free_for rec flat marks port_type) row
+
+-- none of the first cells of a row may be taken
+abbrev pub IsPassed : DeviceRec → Flat → List Bool → (port_type : ℕ) → List ℕ → (passed : ℕ) → Type 0
+IsPassed rec flat marks port_type row passed = free_of rec flat marks port_type (take passed row) ≡ []
+
+abbrev pub lists_of : List (Vec ℕ Global) → List (List ℕ)
+lists_of vecs = map (λ v. v.items) vecs
+
+-- for each signal net the cells on it that aren't port cells, each once, in flat order
+pub record AreRows (flat : Flat) (rows : List (List ℕ)) : Type 0 where
+  pub count : length rows ≡ length flat.nets
+  pub each : (net : ℕ) → net < length flat.nets → slice_get rows net ≡ Some (filter (λ cell. is_on flat cell net) (inner_cells flat))
+
+-- each of these is a cell of the design
+abbrev pub AreCells : Flat → List ℕ → Type 0
+AreCells flat cells = AllByRecursion (λ cell. cell < length flat.cells) cells
+
+-- the last of a list
+abbrev pub last_of : List ℕ → Option ℕ
+last_of xs = slice_get xs (length xs - 1)
+
+-- a row with a cell behind it, which isn't put there twice
+abbrev pub with_cell : List ℕ → ℕ → List ℕ
+with_cell row cell = if unwrap_or (option_map (nat_eq cell) (last_of row)) false then row else row ++ cell ∷ []
+
+-- of each row the cells before the mark for a port cell's type can't be taken any more
+abbrev pub IsPassedAt : DeviceRec → Flat → List Bool → List ℕ → Option Passed → Type 0
+IsPassedAt rec flat marks row None = Unit {0}
+IsPassedAt rec flat marks row (Some passed) = (passed.count ≤ length row) × IsPassed rec flat marks passed.port_type row passed.count
+
+pub record AreMarks (rec : DeviceRec) (flat : Flat) (rows : List (List ℕ)) (marks : Marks) : Type 0 where
+  pub cells : length marks.taken.items ≡ length flat.cells
+  pub nets : length marks.passed.items ≡ length flat.nets
+  pub passed : (net : ℕ) (row : List ℕ) (at : Option Passed) → slice_get rows net ≡ Some row → slice_get marks.passed.items net ≡ Some at → IsPassedAt rec flat marks.taken.items row at
+  pub known : Knows rec marks.known
+
+-- the port cell with the first cells, at most eight, that are on its net, stay with it and aren't marked
+abbrev pub group_by_marks : DeviceRec → Flat → List Bool → (port : ℕ) → List ℕ
+group_by_marks rec flat marks port =
+    port ∷ take 8 (filter (λ cell. is_on_net_of flat port cell && types_go rec flat port cell && not (is_marked marks cell)) (inner_cells flat))
+
+-- these cells are marked besides
+abbrev pub AddsMarks : List ℕ → (before now : List Bool) → Type 0
+AddsMarks cells before now = (cell : ℕ) → is_marked now cell ≡ (is_marked before cell || list_any (nat_eq cell) cells)

@@ -6,7 +6,7 @@ use Rattle.std.proofs.lemmas.List.Sums.{sum_by_more, count_by-le-length}
 use Rattle.ix_first.specs.First.{or_later}
 use Rattle.ix_rec.specs.declared.device.DeviceRec.{DeviceRec}
 use Rattle.ix_rec.specs.declared.flow.FlatCell.{FlatCell}
-use Rattle.ix_device.proofs.Walks.{length_take}
+use Rattle.std.proofs.lemmas.List.{length-take-le}
 use Rattle.ix_belmap.specs.Counts.{count_below, cells_of_type, AreEnough}
 
 pub count_next : (p : ℕ → Bool) (n : ℕ) → count_below p (n + 1) ≡ count_below p n + cond (p n) 1 0
@@ -29,7 +29,7 @@ cells_start ty cells = refl
 
 pub cells_few : (ty : ℕ) (cells : List FlatCell) (i : ℕ) → i < length cells → cells_of_type ty (take i cells) ≤ i
 unfolding cells_of_type
-cells_few ty cells i h = let le = count_by-le-length (λ c. nat_eq c.ty ty) (take i cells) in let len = length_take cells i h in omega arith
+cells_few ty cells i h = let le = count_by-le-length (λ c. nat_eq c.ty ty) (take i cells) in let len = length-take-le i cells (let g : i ≤ length cells = omega arith in g) in omega arith
 
 -- what was counted, with one number more
 pub counted_yes : (p : ℕ → Bool) (n k m : ℕ) → n ≡ count_below p k → p k ≡ true → m ≡ n + 1 → m ≡ count_below p (k + 1)

@@ -1,35 +1,15 @@
--- What is known while cells are counted and grouped.
-use Rattle.std.specs.Prelude.{◌≡◌, ◌<◌, ℕ, List, [], ◌∷◌, ◌++◌, ◌-◌, ◌≤◌, if◌then◌else◌, length, map, take, slice_get, slice_index_or, Bool, true, false, not, ◌&&◌, ◌||◌, nat_eq, Option, Some, None, option_map, option_and_then, unwrap_or, IfSome, Vec}
+-- What is known while cells are grouped.
+use Rattle.std.specs.Prelude.{◌≡◌, ◌<◌, ◌^◌, ℕ, List, [], ◌∷◌, ◌++◌, ◌-◌, ◌≤◌, if◌then◌else◌, length, map, take, slice_get, slice_index_or, Bool, true, false, not, ◌&&◌, ◌||◌, nat_eq, Option, Some, None, option_map, option_and_then, unwrap_or, IfSome, Vec}
 use Rattle.std.specs.Global.{Global}
-use Rattle.std.specs.HashMap.{get}
 use Rattle.std.specs.List.{filter, list_any, AllByRecursion}
 use Rattle.ix_keys.specs.Keys.{key}
 use Rattle.ix_first.specs.declared.by_key.FirstByKey.{FirstByKey}
 use Rattle.ix_first.specs.First.{value_at}
 use Rattle.ix_rec.specs.declared.device.DeviceRec.{DeviceRec}
 use Rattle.ix_rec.specs.declared.flow.Flat.{Flat}
-use Rattle.ix_device.specs.Lookups.{sites_of, type_of_site}
-use Rattle.ix_belmap.specs.declared.cells.CellCounts.{CellCounts}
 use Rattle.ix_belmap.specs.declared.marks.Passed.{Passed}
 use Rattle.ix_belmap.specs.declared.marks.Marks.{Marks}
-use Rattle.ix_belmap.specs.Counts.{count_below}
 use Rattle.ix_belmap.specs.Groups.{is_on, is_on_net_of, stays_with, type_of, types_go, inner_cells}
-
--- the count of a cell type
-abbrev pub of_type : CellCounts → ℕ → Option ℕ
-of_type counts ty = get nat_eq counts.counts ty
-
-abbrev pub is_of_type : DeviceRec → (t site : ℕ) → Bool
-is_of_type rec t site = unwrap_or (option_map (nat_eq t) (type_of_site rec site)) false
-
--- how many sites are of a site type
-unfoldable pub sites_of_type : DeviceRec → (t : ℕ) → ℕ
-sites_of_type rec t = count_below (is_of_type rec t) (length (sites_of rec))
-
--- the numbers of sites of all site types
-pub record AreSiteCounts (rec : DeviceRec) (counts : List ℕ) : Type 0 where
-  pub count : length counts ≡ length rec.site_type_list
-  pub each : (t : ℕ) → t < length rec.site_type_list → slice_get counts t ≡ Some (sites_of_type rec t)
 
 -- what the table keeps of two types is so
 abbrev pub Knows : DeviceRec → FirstByKey Bool → Type 0

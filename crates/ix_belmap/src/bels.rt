@@ -4,7 +4,7 @@ ghost use Rattle.std.specs.Prelude.{◌≡◌, ◌<◌, ◌≤◌, ◌^◌, ℕ,
 ghost use Rattle.ix_device.specs.Lookups.{sites_of};
 ghost use Rattle.ix_belmap.specs.Counts.{bels_in_type as bels_in_type_seen, bels_of_device as bels_of_device_seen};
 ghost use Rattle.ix_belmap.specs.Groups.{is_home as is_home_seen};
-ghost use Rattle.ix_belmap.specs.Marks.{sites_of_type as sites_of_type_seen, AreSiteCounts};
+ghost use Rattle.ix_belmap.specs.Sites.{sites_of_type as sites_of_type_seen, AreSiteCounts};
 
 use ix_device::Device;
 use ix_num::{BelId, Memory, NameId, SiteId, SiteTypeId};
@@ -61,11 +61,12 @@ pub(crate) fn is_home(device: &Device, ty: NameId, place: usize) -> bool
 
 // How many sites are of a type.
 fn sites_of_type(device: &Device, t: SiteTypeId) -> u64
-    ensures { result ≡ sites_of_type_seen device.now t }
+    ensures count { result ≡ sites_of_type_seen device.now t }
+    ensures few { length (sites_of device.now) < 2 ^ 32 }
 {
     let mut count = 0;
     for site in 0..device.sites() {
-        if device.type_of(SiteId::new(site)) == t {
+        if t == device.type_of(SiteId::new(site)) {
             count += 1;
         }
     }
@@ -76,8 +77,7 @@ fn sites_of_type(device: &Device, t: SiteTypeId) -> u64
 pub(crate) fn site_counts(alloc: Global, device: &Device) -> Result<Vec<u64>, Memory>
     ensures { IfOk result (λ counts. AreSiteCounts device.now counts.items) }
 {
-    let mut counts: Vec<u64> = Vec::new(alloc);
-    counts.resize(device.rec().site_type_list.len(), 0)?;
+    let mut counts: Vec<u64> = vec![in alloc; 0; device.rec().site_type_list.len()]?;
     for site in 0..device.sites() {
         let t = device.type_of(SiteId::new(site));
         counts[t.get() as usize] += 1;
@@ -87,8 +87,10 @@ pub(crate) fn site_counts(alloc: Global, device: &Device) -> Result<Vec<u64>, Me
 
 // How many sites are of a type, which the counts tell where they are there.
 fn sites_told(device: &Device, counts: Option<&Vec<u64>>, t: SiteTypeId) -> u64
-    requires { IfSome counts (λ c. AreSiteCounts device.now c.now.items) }
-    ensures { result ≡ sites_of_type_seen device.now t }
+    requires counts { IfSome counts (λ c. AreSiteCounts device.now c.now.items) }
+    requires ty { t < length device.now.site_type_list }
+    ensures count { result ≡ sites_of_type_seen device.now t }
+    ensures few { length (sites_of device.now) < 2 ^ 32 }
 {
     match counts {
         Some(counts) => counts[t.get() as usize],

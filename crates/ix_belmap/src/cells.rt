@@ -2,7 +2,7 @@
 
 ghost use Rattle.std.specs.Prelude.{◌≡◌, ℕ, None, Some, nat_eq, unwrap_or, if◌then◌else◌, IfOk, OnOk};
 ghost use Rattle.ix_belmap.specs.Counts.{cells_of_type};
-ghost use Rattle.ix_belmap.specs.Marks.{of_type};
+ghost use Rattle.ix_belmap.specs.Sites.{of_type};
 
 use ix_num::{Memory, NameId};
 use ix_rec::{FlatCell, Items};

@@ -1,5 +1,5 @@
 use Rattle.std.proofs.Common.{◌≡◌, ap, sym, ◌∙◌, unwrap_or, take, arith}
-use Rattle.ix_belmap.specs.Marks.{of_type}
+use Rattle.ix_belmap.specs.Sites.{of_type}
 use Rattle.ix_belmap.specs.Counts.{cells_of_type}
 use Rattle.ix_belmap.proofs.Counting.{cells_start, cells_few, cells_step}
 use Rattle.ix_belmap.proofs.cells.cell_counts.Goals as goal

@@ -1,6 +1,6 @@
 use Rattle.std.proofs.Common.{◌≡◌, ℕ, take, unwrap_or}
 use Rattle.ix_belmap.specs.Counts.{cells_of_type}
-use Rattle.ix_belmap.specs.Marks.{of_type}
+use Rattle.ix_belmap.specs.Sites.{of_type}
 use Rattle.ix_belmap.proofs.cells.cell_counts.Given as goal
 
 abbrev pub invariant-loop-i : goal.invariant-loop-i

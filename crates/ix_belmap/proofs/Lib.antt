@@ -6,3 +6,5 @@ pub mod Staying
 pub mod Rows
 pub mod Once
 pub mod Sorted
+pub mod Values
+pub mod Failures

@@ -1,6 +1,6 @@
 //! Properties by their keys, and the package that a design names.
 
-ghost use Rattle.std.specs.Prelude.{◌≡◌, ℕ, map, codes, string_bytes, IfOk, option_and_then, option_map, unwrap_or, slice_get, nat_eq, []};
+ghost use Rattle.std.specs.Prelude.{◌≡◌, ℕ, map, codes, string_bytes, IfOk, option_and_then, option_map, unwrap_or, slice_get, nat_eq, [], None, Some};
 ghost use Rattle.std.specs.List.{find, position};
 ghost use Rattle.ix_keys.specs.Keys.{name_key};
 ghost use Rattle.ix_first.specs.First.{value_at};
@@ -67,6 +67,37 @@ fn pins_of_package(packages: &Items<Package>, name: NameId) -> &[PackagePin]
     &[]
 }
 
+// The pins of the package that a value names.
+fn pins_named(device: &Device, value: PropertyValue) -> &[PackagePin]
+    ensures { result.now ≡ pins_by device.now (Some value) }
+{
+    let PropertyValue::Text(name) = value else {
+        return &[];
+    };
+    pins_of_package(&device.rec().packages, name)
+}
+
+// The pins of the device's first package.
+fn first_pins(device: &Device) -> &[PackagePin]
+    ensures { result.now ≡ pins_by device.now None }
+{
+    let packages = &device.rec().packages;
+    if packages.len() == 0 {
+        return &[];
+    }
+    packages.at(0).package_pins.as_slice()
+}
+
+// The pins of the package that a value names; without one the device's first package counts.
+fn pins_told(device: &Device, value: Option<PropertyValue>) -> &[PackagePin]
+    ensures { result.now ≡ pins_by device.now value }
+{
+    match value {
+        Some(value) => pins_named(device, value),
+        None => first_pins(device),
+    }
+}
+
 /// The pins of the package that the design is for; none where there is no such package.
 pub(crate) fn package_pins<'a>(
     alloc: Global,
@@ -77,18 +108,7 @@ pub(crate) fn package_pins<'a>(
     ensures { IfOk result (λ pins. pins.now ≡ package_pins_seen names.now device.now design.now) }
 {
     let values = values_by_key(alloc, &design.prop_map.entries)?;
-    let packages = &device.rec().packages;
-    match property(&values, names, "PACKAGE") {
-        Some(PropertyValue::Text(name)) => Ok(pins_of_package(packages, name)),
-        Some(_) => Ok(&[]),
-        None => {
-            if packages.len() == 0 {
-                Ok(&[])
-            } else {
-                Ok(packages.at(0).package_pins.as_slice())
-            }
-        }
-    }
+    Ok(pins_told(device, property(&values, names, "PACKAGE")))
 }
 
 /// The place of the first pin of each name.

@@ -1,5 +1,5 @@
 -- Values of keys, property by property.
-use Rattle.std.proofs.Common.{◌≡◌, refl, ap, sym, ◌∙◌, ℕ, zero, suc, ◌+◌, List, [], ◌∷◌, ◌++◌, take, drop, length, slice_get, Option, Some, None, option_map, Bool, true, false, cond, nat_eq, take-append-drop, arith}
+use Rattle.std.proofs.Common.{◌≡◌, refl, ap, sym, ◌∙◌, ℕ, zero, suc, ◌+◌, List, [], ◌∷◌, ◌++◌, take, drop, length, slice_get, Option, Some, None, option_map, option_and_then, Bool, true, false, cond, nat_eq, take-append-drop, arith}
 use Rattle.std.specs.List.{find}
 use Rattle.std.proofs.lemmas.Option.{none-some}
 use Rattle.ix_device.proofs.Walks.{take_next}
@@ -60,3 +60,7 @@ pub find_here : {A : Type 0} (p : A → Bool) (xs : List A) (i : ℕ) (x : A) �
 find_here p xs i x at before passes =
     ap (find p) (sym (take-append-drop (i + 1) xs))
     ∙ find_on p (take (i + 1) xs) (drop (i + 1) xs) x (ap (find p) (take_next xs i x at) ∙ find_push p (take i xs) x before ∙ ap (λ b. cond b (Some x) None) passes)
+
+pub same_values : (f g : ℕ → Option PropertyValue) (o : Option ℕ) → ((k : ℕ) → f k ≡ g k) → option_and_then f o ≡ option_and_then g o
+same_values f g None h = refl
+same_values f g (Some k) h = h k

@@ -1,6 +1,6 @@
 //! The answer to the bytes of a device and a design.
 
-ghost use Rattle.std.specs.Prelude.{◌≡◌, ◌+◌, ◌-◌, ◌^◌, ◌<◌, ◌≤◌, Ok, Err, Some, IfOk, IfErr, OnOk, [], length, slice_get, true, false};
+ghost use Rattle.std.specs.Prelude.{◌≡◌, ◌+◌, ◌-◌, ◌^◌, ◌<◌, ◌≤◌, Ok, Err, Some, IfOk, IfErr, OnOk, [], ◌∷◌, length, slice_get, true, false};
 ghost use Rattle.std.specs.List.{AllByRecursion};
 ghost use Rattle.ix_frame.specs.Result.{Finds};
 ghost use Rattle.ix_frame.specs.Views.{segments_of};

@@ -1,6 +1,6 @@
 //! The job of the cases.
 
-ghost use Rattle.std.specs.Prelude.{◌≡◌, ◌++◌, length, map, IfOk};
+ghost use Rattle.std.specs.Prelude.{◌≡◌, ◌++◌, ◌∷◌, [], length, map, IfOk};
 ghost use Rattle.ix_job.specs.Views.{content_seen, outcome_seen};
 ghost use Rattle.ix_job_cases.specs.Joins.{Joins as IsJoined};
 

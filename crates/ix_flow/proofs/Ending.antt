@@ -1,8 +1,13 @@
 -- From the run of the job to the status.
-use Rattle.std.proofs.Common.{◌≡◌, ◌∙◌, ap, inl, inr, ◌⊎◌, ℕ, List, [], ◌∷◌, Option, Some, option_map, Result, Ok, Err}
+use Rattle.std.proofs.Common.{◌≡◌, ◌∙◌, ap, inl, inr, ◌⊎◌, ℕ, List, [], ◌∷◌, Option, Some, option_map, Result, Ok, Err, IfOk, subst}
 use Rattle.ix_shelf.specs.Shelf.{Files}
 use Rattle.ix_report.specs.declared.report.Report.{Report}
 use Rattle.ix_report.specs.declared.report.Report.TheVariants as a_report
+use Rattle.ix_job.specs.declared.stop.Stop.{Stop}
+use Rattle.ix_job.specs.declared.stop.Stop.TheVariants.{Refused}
+use Rattle.ix_job.specs.declared.work.Outcome as made
+use Rattle.ix_job.specs.Views.{outcome_seen}
+use Rattle.ix_job.specs.Chain.{Step, comes_to, Meets}
 use Rattle.ix_job.specs.Outside.{Outside}
 use Rattle.ix_job.specs.Job.{Content, Outcome, content_of, AreContents, CompletesJob}
 use Rattle.ix_flow.specs.declared.status.Status.{Status}
@@ -30,3 +35,9 @@ flow_complete flow before after (Ok report) status s h files device design e d n
     by_report device design report status s (h files (content_of device ∷ content_of design ∷ []) e (two_contents flow files device design d n) failed)
 flow_complete flow before after (Err fault) status s h files device design e d n failed =
     absurd (h files (content_of device ∷ content_of design ∷ []) e (two_contents flow files device design d n) failed)
+
+-- what a job comes to that was refused
+pub refused_comes : {M : Type 0} (step : Step Outcome) (stop : Stop) (r : Result made.Outcome M) → Meets outcome_seen step (Err stop) → IfOk r (λ o. stop ≡ Refused o.report)
+    → IfOk r (λ o. o.outputs ≡ []) → IfOk r (λ o. comes_to step (outcome_seen o))
+refused_comes step stop (Ok o) h is none = inr (subst (λ (s : Stop). Meets outcome_seen step (Err s)) is h, none)
+refused_comes step stop (Err e) h is none = tt

@@ -1,16 +1,11 @@
-use Rattle.std.proofs.Common.{rules, ◌≡◌, ◌++◌, ◌∷◌, [], length, map, IfOk, ℕ, ◌+◌, ◌-◌, ◌*◌, ◌<◌, ◌≤◌, ◌/◌, ◌%◌, Bool, true, false, nat_eq, nat_lt, List, slice_index_or, slice_set, bit_and, bit_or, Fits, w8, w32, w64, Bor, MutBor}
+use Rattle.std.proofs.Common.{List, IfOk, ap, sym, subst, map}
+use Rattle.ix_job.specs.Job.{Content}
 use Rattle.ix_job.specs.Views.{content_seen, outcome_seen}
-use Rattle.ix_job_cases.specs.Joins.{Joins as IsJoined}
+use Rattle.ix_job.proofs.Setting.{two_items}
+use Rattle.ix_job_cases.specs.Joins.{IsJoined}
 use Rattle.ix_job_cases.proofs.joins.JoinsWork.outcome.Goals as goal
 
--- src/joins.rt:41:5
-pub returns-in-Bytes-Bytes : goal.returns-in-Bytes-Bytes
-returns-in-Bytes-Bytes c = ?
-
--- src/joins.rt:41:5
-pub returns-in_ok-both-in-Bytes-Bytes-2 : goal.returns-in_ok-both-in-Bytes-Bytes-2
-returns-in_ok-both-in-Bytes-Bytes-2 c = ?
-
--- src/joins.rt:41:5
-pub returns-in_default : goal.returns-in_default
-returns-in_default c = ?
+pub returns : goal.returns
+returns c =
+    let two = ap (map content_seen) (two_items c.args.inputs.now c.at.result.now c.at-2.result.now c.requires c.at.ensures c.at-2.ensures) in
+    subst (λ (xs : List Content). IfOk c.joined_contents.result (λ o. IsJoined xs (outcome_seen o))) (sym two) c.joined_contents.ensures

@@ -1,23 +1,36 @@
 -- From what the code has to the answer.
-use Rattle.std.proofs.Common.{◌≡◌, ◌∙◌, ◌≤◌, ap, sym, subst, ℕ, List, [], length, map, slice_get, Some, true, false, Result, Ok, Err, IfOk, Bool, nat_lt, refl}
+use Rattle.std.proofs.Common.{◌≡◌, ◌∙◌, ◌≤◌, ap, sym, inl, inr, ℕ, List, [], ◌∷◌, length, slice_get, Some, None, Ok, Err, true, false, Bool, nat_lt, refl}
 use Rattle.std.proofs.Math.Nat.{not-suc-le_self}
 use borrow.Author.Tests.{ltb-true, ltb-false}
 use Rattle.std.proofs.lemmas.Option.{same_Some, slice_get_within, slice_get-get_or}
-use Rattle.ix_frame.specs.Segments.{Segments}
 use Rattle.ix_message.specs.Shape.{Text}
 use Rattle.ix_rec.specs.declared.device.DeviceRec.{DeviceRec}
-use Rattle.ix_rec.specs.declared.place.Rule.{Rule}
-use Rattle.ix_rec.specs.declared.place.File.TheVariants.{Design}
-use Rattle.ix_strings.specs.Names.{KeepsNumbers}
+use Rattle.ix_strings.specs.Names.{AllDiffer, KeepsNumbers}
 use Rattle.ix_device_read.specs.Named.{DeviceNamed}
 use Rattle.ix_first_fit.specs.declared.cell.Cell.{Cell}
 use Rattle.ix_first_fit.specs.Fit.{IsStuck}
-use Rattle.ix_first_form.specs.FirstForm.{is_first_form, cells_in}
-use Rattle.ix_first_form.specs.FirstCells.{cell_seen, AreFirst}
-use Rattle.ix_flow.specs.declared.answer.Answer.{Answer}
-use Rattle.ix_flow.specs.declared.answer.Answer.TheVariants.{Broken, Unbuilt, TooFewBels, NoSite, TooLong, Written}
-use Rattle.ix_flow.specs.Answer.{ValidDevice, FirstDesign, IsAnswerOn, IsAnswerOf}
-use Rattle.ix_flow.specs.Judged.{IsDeviceOf, IsCellAnswer}
+use Rattle.ix_first_fit.specs.Fit.{IsTooFew}
+use Rattle.ix_first_fit.specs.Answers.{IsFitted}
+use Rattle.ix_num.specs.declared.fault.FrameFault.{FrameFault}
+use Rattle.ix_rec.specs.declared.phys.Phys.{Phys}
+use Rattle.ix_rec.specs.declared.place.Rule.{Rule}
+use Rattle.ix_rec.specs.declared.place.Rule.TheVariants.{I1}
+use Rattle.ix_rec.specs.declared.place.File.TheVariants.{Device}
+use Rattle.ix_rec.specs.declared.place.Place.{Place}
+use Rattle.ix_rec.specs.declared.place.Place.TheVariants as places
+use Rattle.ix_report.specs.declared.report.Report.TheVariants.{Bad, TooFewBels, NoSite}
+use Rattle.ix_frame.specs.Segments.{Segments}
+use Rattle.ix_message.specs.Message.{frame, reading, encoding, is_too_long}
+use Rattle.ix_message.specs.Device.{device}
+use Rattle.ix_message.specs.Phys.{phys_netlist}
+use Rattle.ix_device_read.specs.Records.{device_record}
+use Rattle.ix_device_read.specs.Reading.{reading_in_segments, IsBadField}
+use Rattle.ix_device_rules.specs.Broken.{IsBreach}
+use Rattle.ix_device_rules.specs.Rules.{first_broken}
+use Rattle.ix_phys_write.specs.Record.{phys_record}
+use Rattle.ix_job.specs.Job.{Outcome}
+use Rattle.ix_flow.specs.Answer.{rule_of, device_in, placed, written, implemented}
+use Rattle.ix_flow.specs.Named.{named_device, named_cells}
 use Rattle.ix_first_fit.proofs.Apart.{own_places}
 use Rattle.ix_flow.proofs.MoreNames.{more_device}
 
@@ -37,35 +50,47 @@ no_fewer old new keeps = by (nat_lt (length new) (length old)) refl
 pub still_named : (old new : List Text) (rec : DeviceRec) → KeepsNumbers old new → DeviceNamed (length old) rec → DeviceNamed (length new) rec
 still_named old new rec keeps h = more_device (no_fewer old new keeps) rec h
 
-abbrev valid : (all : Segments) (names : List Text) (rec : DeviceRec) → IsDeviceOf all names rec → ValidDevice all
-valid all names rec d = record { names = names; rec = rec; read = d.read; valid = d.valid }
+-- what each step tells
+pub device_told : (all : Segments) (names : List Text) (rec : DeviceRec) → AllDiffer names → reading_in_segments device all ≡ Ok (device_record names rec)
+    → DeviceNamed (length names) rec → first_broken rec ≡ None → device_in all (Ok (named_device names rec))
+device_told all names rec differ reads named valid = record { read = record { differ = differ; reads = reads; named = named }; valid = valid }
 
-answer_is : (all : Segments) (names : List Text) (rec : DeviceRec) (design : Result Segments Rule) (a : Answer) (d : IsDeviceOf all names rec) (f : FirstDesign (valid all names rec d) design)
-    → IsCellAnswer rec f.names f.cells a → IsAnswerOn all design a
-answer_is all names rec design (TooFewBels kind n bels) d f h = record { from_device = valid all names rec d; from_design = f; type_id = h.0; too_few = h.1; type_is = h.2 }
-answer_is all names rec design (NoSite cell) d f h = record { from_device = valid all names rec d; from_design = f; place = h.0; stuck = h.1; cell_is = h.2 }
-answer_is all names rec design TooLong d f h = (record { from_device = valid all names rec d; from_design = f; phys = h.phys; fitted = h.fitted; own = own_places rec f.cells h.phys h.fitted }, h.file)
-answer_is all names rec design (Written bytes report) d f h = record {
-  placed = record { from_device = valid all names rec d; from_design = f; phys = h.phys; fitted = h.fitted; own = own_places rec f.cells h.phys h.fitted };
-  fits = h.file.0;
-  encoded = h.file.1;
-  decodes = h.file.2;
-  told = h.file.3;
-}
-answer_is all names rec design (Broken file rule place) d f h = absurd h
-answer_is all names rec design (Unbuilt file) d f h = absurd h
+pub rule_told : (all : Segments) (names : List Text) (rec : DeviceRec) (rule : Rule) (place : Place) → AllDiffer names → reading_in_segments device all ≡ Ok (device_record names rec)
+    → DeviceNamed (length names) rec → IsBreach (first_broken rec) rule place → device_in all (Err (Bad Device rule place))
+rule_told all names rec rule place differ reads named broken =
+    (rule, place, inr (inr record { from_device = named_device names rec; read = record { differ = differ; reads = reads; named = named }; broken = broken }), refl)
 
-pub answered : {E : Type 0} (all : Segments) (names : List Text) (rec : DeviceRec) (design : Result Segments Rule) (segments : Segments) (new : List Text) (cells : List Cell) (r : Result Answer E)
-    → IsDeviceOf all names rec → design ≡ Ok segments → is_first_form names rec segments ≡ true → KeepsNumbers names new → map (cell_seen new) cells ≡ cells_in segments → AreFirst rec new cells
-    → IfOk r (IsCellAnswer rec new cells) → IfOk r (IsAnswerOn all design)
-answered all names rec design segments new cells (Ok a) d opened form keeps seen first h =
-    answer_is all names rec design a d (record { segments_are = segments; opened_so = opened; in_form = form; names = new; keeps = keeps; cells = cells; cells_are = seen; first = first }) h
-answered all names rec design segments new cells (Err e) d opened form keeps seen first h = tt
+pub frame_told : (all : Segments) (fault : FrameFault) → reading_in_segments device all ≡ Err (frame fault)
+    → device_in all (Err (Bad Device (rule_of fault.rule) (places.At fault.segment fault.word)))
+frame_told all fault found = (_, _, inl record { fault = fault; found = found; rule_is = refl; place_is = refl }, refl)
 
-pub unbuilt : (all : Segments) (names : List Text) (rec : DeviceRec) (design : Result Segments Rule) (segments : Segments) → IsDeviceOf all names rec → design ≡ Ok segments → is_first_form names rec segments ≡ false
-    → IsAnswerOn all design (Unbuilt Design)
-unbuilt all names rec design segments d opened form = (valid all names rec d, (segments, opened, form))
+pub too_few_told : (rec : DeviceRec) (names : List Text) (cells : List Cell) (kind n bels : ℕ) (text : Text) → IsTooFew rec cells kind n bels → slice_get names kind ≡ Some text
+    → placed rec (named_cells names cells) (Err (TooFewBels text n bels))
+too_few_told rec names cells kind n bels text few is =
+    inl record { type_id = kind; kind = text; cells = n; bels = bels; too_few = few; type_is = is; report_is = refl }
 
--- a file whose segments are these
-pub opened_as : {E : Type 0} (all : Segments) (device design : Result Segments Rule) (r : Result Answer E) → device ≡ Ok all → IfOk r (IsAnswerOn all design) → IfOk r (IsAnswerOf device design)
-opened_as all device design r same h = subst (λ d. IfOk r (IsAnswerOf d design)) (sym same) h
+pub no_site_told : (rec : DeviceRec) (names : List Text) (cells : List Cell) (k : ℕ) (text : Text) (s : IsStuck rec cells k) → slice_get names s.cell.name ≡ Some text
+    → placed rec (named_cells names cells) (Err (NoSite text))
+no_site_told rec names cells k text s is = inr record { place = k; cell = text; stuck = s; cell_is = is; report_is = refl }
+
+pub placed_told : (rec : DeviceRec) (names : List Text) (cells : List Cell) (phys : Phys) → IsFitted rec cells phys → placed rec (named_cells names cells) (Ok phys)
+placed_told rec names cells phys fitted = record { fitted = fitted; own = own_places rec cells phys fitted }
+
+pub written_told : (names : List Text) (cells : List Cell) (phys : Phys) (bytes : List ℕ) (outcome : Outcome) → is_too_long phys_netlist (phys_record names phys) ≡ false
+    → bytes ≡ encoding phys_netlist (phys_record names phys) → reading phys_netlist bytes ≡ Ok (phys_record names phys)
+    → outcome ≡ record { report = implemented (length cells) (length phys.site_insts); outputs = bytes ∷ [] } → written (named_cells names cells) phys (Ok outcome)
+written_told names cells phys bytes outcome fits encoded decodes is =
+    record { bytes = bytes; fits = fits; encoded = encoded; decodes = decodes; outputs_are = ap (λ (o : Outcome). o.outputs) is; report_is = ap (λ (o : Outcome). o.report) is }
+
+pub index_told : (all : Segments) (place : Place) → IsBadField place (reading_in_segments device all) → device_in all (Err (Bad Device I1 place))
+index_told all (places.Item k f i) h =
+    (_, _, inr (inl record { item = record { kind = k; field = f; index = i }; found = h; rule_is = refl; place_is = refl }), refl)
+index_told all places.File h = absurd h
+index_told all (places.At s w) h = absurd h
+index_told all (places.Named n) h = absurd h
+index_told all (places.Cell n) h = absurd h
+index_told all (places.Pin a b) h = absurd h
+index_told all (places.Segment n i) h = absurd h
+index_told all (places.Element s k) h = absurd h
+index_told all (places.Site n) h = absurd h
+index_told all (places.Key k) h = absurd h

@@ -1,148 +1,43 @@
--- How a run ends.
-use Rattle.std.proofs.Common.{◌≡◌, ◌∙◌, Option, Some, option_map, ap, subst, sym, refl}
-use Rattle.ix_shelf.specs.Shelf.{Files, with_file, Rose, LeavesPrefix}
-use Rattle.ix_shelf.specs.Sink.{with_bytes, PutsPrefix}
-use Rattle.ix_report.specs.Lines.{line_of}
+-- From the run of the job to the status.
+use Rattle.std.proofs.Common.{◌≡◌, ◌∙◌, ap, inl, inr, ◌⊎◌, ℕ, List, [], ◌∷◌, Option, Some, option_map, Result, Ok, Err, IfOk, subst}
+use Rattle.ix_shelf.specs.Shelf.{Files}
 use Rattle.ix_report.specs.declared.report.Report.{Report}
-use Rattle.ix_report.specs.declared.report.Report.TheVariants as told
-use Rattle.ix_flow.specs.declared.answer.Answer.{Answer}
-use Rattle.ix_flow.specs.declared.answer.Answer.TheVariants.{Written}
-use Rattle.ix_flow.specs.declared.job.Job.{Job}
+use Rattle.ix_report.specs.declared.report.Report.TheVariants as a_report
+use Rattle.ix_job.specs.declared.stop.Stop.{Stop}
+use Rattle.ix_job.specs.declared.stop.Stop.TheVariants.{Refused}
+use Rattle.ix_job.specs.declared.work.Outcome as made
+use Rattle.ix_job.specs.Views.{outcome_seen}
+use Rattle.ix_job.specs.Chain.{Step, comes_to, Meets}
+use Rattle.ix_job.specs.Outside.{Outside}
+use Rattle.ix_job.specs.Job.{Content, Outcome, content_of, AreContents, CompletesJob}
 use Rattle.ix_flow.specs.declared.status.Status.{Status}
-use Rattle.ix_flow.specs.declared.status.Status.TheVariants as stat
 use Rattle.ix_flow.specs.Words.{Flow}
-use Rattle.ix_flow.specs.Answer.{implemented}
+use Rattle.ix_flow.specs.Answer.{IsFlowOutcome}
 use Rattle.ix_flow.specs.Status.{status_of}
-use Rattle.ix_flow.specs.Run.{Outside, KeepsCounts, Prints, IsStatusOf, Answers, Tells, IsFlowRun}
-use Rattle.ix_flow.specs.Steps.{IsReady, IsReadyFor, TellsRefusal, IsCaused}
+use Rattle.ix_flow.specs.Run.{job_for, ended, IsStatusOn, IsComplete}
 
--- A run that refuses, with no file touched.
-pub refusal_run : (flow : Flow) (before after : Outside) (report : Report) (status : Status) → status ≡ status_of report → Prints (line_of report) before after
-    → after.files ≡ before.files → after.write_faults ≡ before.write_faults → KeepsCounts before after → IsCaused report before.files before.read_faults after.read_faults
-    → ((f : Files) → before.files ≡ Some f → TellsRefusal report flow f) → IsFlowRun flow before after status
-refusal_run flow before after (told.Bad file rule place) status e p same write counts cause says = record {
-  report = told.Bad file rule place;
-  is_status = subst (IsStatusOf (told.Bad file rule place) before after) (sym e) (refl, p);
-  taken = λ h. cc;
-  cause = tt;
-  kept = (same, write);
-  tells = says;
-  counts = counts;
-}
-refusal_run flow before after (told.NotBuilt file) status e p same write counts cause says = record {
-  report = told.NotBuilt file;
-  is_status = subst (IsStatusOf (told.NotBuilt file) before after) (sym e) (refl, p);
-  taken = λ h. cc;
-  cause = tt;
-  kept = (same, write);
-  tells = says;
-  counts = counts;
-}
-refusal_run flow before after told.TooLong status e p same write counts cause says = record {
-  report = told.TooLong;
-  is_status = subst (IsStatusOf told.TooLong before after) (sym e) (refl, p);
-  taken = λ h. cc;
-  cause = tt;
-  kept = (same, write);
-  tells = says;
-  counts = counts;
-}
-refusal_run flow before after (told.ReadFault file) status e p same write counts cause says = record {
-  report = told.ReadFault file;
-  is_status = subst (IsStatusOf (told.ReadFault file) before after) (sym e) (refl, p);
-  taken = λ h. cc;
-  cause = cause;
-  kept = (same, write);
-  tells = says;
-  counts = counts;
-}
-refusal_run flow before after (told.TooFewBels kind cells bels) status e p same write counts cause says = record {
-  report = told.TooFewBels kind cells bels;
-  is_status = subst (IsStatusOf (told.TooFewBels kind cells bels) before after) (sym e) (refl, p);
-  taken = λ h. cc;
-  cause = tt;
-  kept = (same, write);
-  tells = says;
-  counts = counts;
-}
-refusal_run flow before after (told.NoSite cell) status e p same write counts cause says = record {
-  report = told.NoSite cell;
-  is_status = subst (IsStatusOf (told.NoSite cell) before after) (sym e) (refl, p);
-  taken = λ h. cc;
-  cause = tt;
-  kept = (same, write);
-  tells = says;
-  counts = counts;
-}
-refusal_run flow before after told.Usage status e p same write counts cause says = absurd cause
-refusal_run flow before after (told.Implemented cells clusters nets pips trial rounds) status e p same write counts cause says = absurd cause
-refusal_run flow before after (told.WriteFault file) status e p same write counts cause says = absurd cause
-refusal_run flow before after told.OutOfMemory status e p same write counts cause says = absurd cause
+two_contents : (flow : Flow) (files : Files) (device design : List ℕ) → files flow.device ≡ Some device → files flow.design ≡ Some design
+    → AreContents files (flow.device ∷ flow.design ∷ []) (content_of device ∷ content_of design ∷ [])
+two_contents flow files device design d n =
+    let first : option_map content_of (files flow.device) ≡ Some (content_of device) = ap (option_map content_of) d in
+    let second : option_map content_of (files flow.design) ≡ Some (content_of design) = ap (option_map content_of) n in
+    ap (λ (o : Option Content). o ∷ option_map content_of (files flow.design) ∷ []) first ∙ ap (λ (o : Option Content). Some (content_of device) ∷ o ∷ []) second
 
--- A run that finds no memory, with no file touched.
-pub memory_run : (flow : Flow) (before after : Outside) → Prints (line_of told.OutOfMemory) before after → after.files ≡ before.files
-    → after.write_faults ≡ before.write_faults → KeepsCounts before after → IsFlowRun flow before after stat.OutOfMemory
-memory_run flow before after p same write counts = record {
-  report = told.OutOfMemory;
-  is_status = (refl, p);
-  taken = λ h. cc;
-  cause = tt;
-  kept = (same, write);
-  tells = λ f h. tt;
-  counts = counts;
-}
+by_report : (device design : List ℕ) (report : Report) (status : Status) → status ≡ status_of report
+    → (report ≡ a_report.OutOfMemory) ⊎ ((outcome : Outcome) × IsFlowOutcome (content_of device ∷ content_of design ∷ []) outcome × (report ≡ outcome.report))
+    → IsStatusOn device design status
+by_report device design report status s (inl memory) = inl (s ∙ ap status_of memory)
+by_report device design report status s (inr is) = inr (is.0, is.1, s ∙ ap status_of is.2)
 
--- the answer for which a job is ready, in full
-ready_answers : (flow : Flow) (files : Files) (a : Answer) (job : Job) (r : IsReady flow a job) → Answers files flow a → Answers files flow (Written job.bytes (implemented r.cells r.sites))
-ready_answers flow files a job r h = subst (Answers files flow) (r.answered ∙ ap (Written job.bytes) r.report) h
+pub flow_complete : {E : Type 0} (flow : Flow) (before after : Outside) (r : Result Report E) (status : Status) → status ≡ ended r
+    → CompletesJob IsFlowOutcome (job_for flow) before after r → IsComplete (Some flow) before after status
+flow_complete flow before after (Ok report) status s h files device design e d n failed =
+    by_report device design report status s (h files (content_of device ∷ content_of design ∷ []) e (two_contents flow files device design d n) failed)
+flow_complete flow before after (Err fault) status s h files device design e d n failed =
+    absurd (h files (content_of device ∷ content_of design ∷ []) e (two_contents flow files device design d n) failed)
 
--- the netlist was written
-told_implemented : (flow : Flow) (before after : Outside) (job : Job) (r : IsReadyFor flow before.files job) → after.files ≡ option_map (with_file flow.routed job.bytes) before.files
-    → (f : Files) → before.files ≡ Some f → Tells (implemented r.1.cells r.1.sites) flow f after.files
-told_implemented flow before after job r written f h = record {
-  bytes = job.bytes;
-  answers = ready_answers flow f r.0 job r.1 (r.2 f h);
-  written = written ∙ ap (option_map (with_file flow.routed job.bytes)) h;
-}
-
--- A run that does its job and tells of it.
-pub done_run : (flow : Flow) (before after : Outside) (job : Job) (status : Status) → IsReadyFor flow before.files job → status ≡ status_of job.done.report
-    → after.told ≡ with_bytes (line_of job.done.report) before.told → after.files ≡ option_map (with_file flow.routed job.bytes) before.files → KeepsCounts before after
-    → IsFlowRun flow before after status
-done_run flow before after job status r e p written counts = record {
-  report = implemented r.1.cells r.1.sites;
-  is_status = subst (IsStatusOf (implemented r.1.cells r.1.sites) before after) (sym (e ∙ ap status_of r.1.report)) (refl, p ∙ ap (λ (x : Report). with_bytes (line_of x) before.told) r.1.report);
-  taken = λ h. cc;
-  cause = tt;
-  kept = tt;
-  tells = told_implemented flow before after job r written;
-  counts = counts;
-}
-
--- A run that does its job and can't tell of it.
-pub untold_run : (flow : Flow) (before after : Outside) (job : Job) → IsReadyFor flow before.files job
-    → Rose before.put_faults after.put_faults → PutsPrefix (line_of job.done.report) before.told after.told
-    → after.files ≡ option_map (with_file flow.routed job.bytes) before.files → KeepsCounts before after → IsFlowRun flow before after stat.PutFault
-untold_run flow before after job r rose p written counts = record {
-  report = implemented r.1.cells r.1.sites;
-  is_status = (refl, rose, subst (λ (x : Report). PutsPrefix (line_of x) before.told after.told) r.1.report p);
-  taken = λ h. cc;
-  cause = tt;
-  kept = tt;
-  tells = told_implemented flow before after job r written;
-  counts = counts;
-}
-
--- A run that can't write.
-pub unwritten_run : (flow : Flow) (before after : Outside) (job : Job) (status : Status) → IsReadyFor flow before.files job → status ≡ status_of job.fault.report
-    → Prints (line_of job.fault.report) before after → LeavesPrefix flow.routed job.bytes before.files after.files → Rose before.write_faults after.write_faults
-    → KeepsCounts before after → IsFlowRun flow before after status
-unwritten_run flow before after job status r e p left rose counts = record {
-  report = told.WriteFault flow.routed;
-  is_status = subst (IsStatusOf (told.WriteFault flow.routed) before after) (sym (e ∙ ap status_of r.1.fault)) (refl, subst (λ (x : Report). Prints (line_of x) before after) r.1.fault p);
-  taken = λ h. cc;
-  cause = rose;
-  kept = tt;
-  tells = λ f h. (refl, job.bytes, job.done.report, subst (Answers f flow) r.1.answered (r.2 f h), subst (λ (o : Option Files). LeavesPrefix flow.routed job.bytes o after.files) h left);
-  counts = counts;
-}
+-- what a job comes to that was refused
+pub refused_comes : {M : Type 0} (step : Step Outcome) (stop : Stop) (r : Result made.Outcome M) → Meets outcome_seen step (Err stop) → IfOk r (λ o. stop ≡ Refused o.report)
+    → IfOk r (λ o. o.outputs ≡ []) → IfOk r (λ o. comes_to step (outcome_seen o))
+refused_comes step stop (Ok o) h is none = inr (subst (λ (s : Stop). Meets outcome_seen step (Err s)) is h, none)
+refused_comes step stop (Err e) h is none = tt

@@ -1,5 +1,3 @@
-pub mod Judging
 pub mod Ending
-pub mod Complete
 pub mod Answering
 pub mod MoreNames

@@ -5,5 +5,4 @@ pub mod Status
 pub mod Run
 -- For private contracts and proofs.
 pub mod WordsView
-pub mod Steps
-pub mod Judged
+pub mod Named

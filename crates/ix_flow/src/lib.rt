@@ -2,12 +2,10 @@
 #![tactic(auto)]
 
 mod answer;
-mod inputs;
-mod job;
 mod program;
 mod status;
 mod words;
+mod work;
 
-pub use answer::Answer;
 pub use program::run;
 pub use status::Status;

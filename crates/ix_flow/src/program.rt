@@ -1,54 +1,26 @@
 //! The top call.
 
-ghost use Rattle.std.specs.Prelude.{◌≡◌, ◌≤◌, map, string_bytes};
+ghost use Rattle.std.specs.Prelude.{◌≡◌, ◌≤◌, Some, map, string_bytes};
 ghost use Rattle.ix_report.specs.Lines.{line_of};
+ghost use Rattle.ix_job.specs.Outside.{outside, PutsLine};
 ghost use Rattle.ix_flow.specs.Words.{flow_of};
 ghost use Rattle.ix_flow.specs.WordsView.{flow_view};
-ghost use Rattle.ix_flow.specs.Status.{status_of};
-ghost use Rattle.ix_flow.specs.Run.{PrintsLine, outside, IsFlowRun, IsRun, IsComplete};
-ghost use Rattle.ix_flow.specs.Steps.{IsReadyFor};
+ghost use Rattle.ix_flow.specs.Run.{IsRun, IsComplete};
 
-use crate::inputs::prepare;
-use crate::job::{Job, Prepared, Told};
 use crate::status::{Status, status_of};
 use crate::words::{FlowWords, flow_words};
-use ix_report::{OUT_OF_MEMORY_LINE, USAGE_LINE};
-use ix_shelf::{Shelf, Sink, say, write_file};
+use crate::work::FlowWork;
+use ix_job::run_job;
+use ix_report::USAGE_LINE;
+use ix_shelf::{Shelf, Sink, say};
 use std::alloc::Global;
 
 // Prints a line. Where not all of it is put, nothing more can be told.
 fn print<O: Sink>(out: &mut O, line: &[u8])
-    ensures line { PrintsLine line.now (O.told out.old) (O.told out.new) (O.faults out.old) (O.faults out.new) }
+    ensures line { PutsLine line.now (O.told out.old) (O.told out.new) (O.faults out.old) (O.faults out.new) }
     ensures faults { O.faults out.old ≤ O.faults out.new }
 {
     let _ = say(out, line);
-}
-
-// Prints the line of a run that did no job, and answers its status.
-fn tell<O: Sink>(out: &mut O, told: Told) -> Status
-    ensures status { result ≡ status_of told.report }
-    ensures line { PrintsLine (line_of told.report) (O.told out.old) (O.told out.new) (O.faults out.old) (O.faults out.new) }
-    ensures faults { O.faults out.old ≤ O.faults out.new }
-{
-    print(out, told.line.as_slice());
-    status_of(told.report)
-}
-
-// Writes the netlist and tells of it. No memory is taken from here on.
-fn end_job<S: Shelf, O: Sink>(flow: &FlowWords<'_>, job: Job, shelf: &mut S, out: &mut O) -> Status
-    requires { IsReadyFor (flow_view flow.now) (S.files shelf.old) job }
-    ensures { IsFlowRun (flow_view flow.now)
-        (outside S.files S.read_faults S.write_faults O.told O.faults shelf.old out.old)
-        (outside S.files S.read_faults S.write_faults O.told O.faults shelf.new out.new) result }
-{
-    let Job { bytes, done, fault } = job;
-    match write_file(shelf, flow.routed, bytes.as_slice()) {
-        Ok(()) => match say(out, done.line.as_slice()) {
-            Ok(()) => status_of(done.report),
-            Err(_) => Status::PutFault,
-        },
-        Err(_) => tell(out, fault),
-    }
 }
 
 fn run_flow<S: Shelf, O: Sink>(
@@ -57,17 +29,18 @@ fn run_flow<S: Shelf, O: Sink>(
     shelf: &mut S,
     out: &mut O,
 ) -> Status
-    ensures { IsFlowRun (flow_view flow.now)
+    ensures run { IsRun (Some (flow_view flow.now))
+        (outside S.files S.read_faults S.write_faults O.told O.faults shelf.old out.old)
+        (outside S.files S.read_faults S.write_faults O.told O.faults shelf.new out.new) result }
+    ensures complete { IsComplete (Some (flow_view flow.now))
         (outside S.files S.read_faults S.write_faults O.told O.faults shelf.old out.old)
         (outside S.files S.read_faults S.write_faults O.told O.faults shelf.new out.new) result }
 {
-    match prepare(alloc, flow, shelf) {
-        Ok(Prepared::Ready(job)) => end_job(flow, job, shelf, out),
-        Ok(Prepared::Refused(told)) => tell(out, told),
-        Err(_) => {
-            print(out, OUT_OF_MEMORY_LINE);
-            Status::OutOfMemory
-        }
+    let inputs = [flow.device, flow.design];
+    let outputs = [flow.routed];
+    match run_job(alloc, &FlowWork, &inputs, &outputs, shelf, out) {
+        Ok(report) => status_of(report),
+        Err(_) => Status::PutFault,
     }
 }
 

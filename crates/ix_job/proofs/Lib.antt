@@ -2,3 +2,4 @@ pub mod Setting
 pub mod FaultLines
 pub mod Ending
 pub mod Complete
+pub mod Chains

@@ -14,6 +14,10 @@ abbrev pub and_then : {A B : Type 0} → Step A → (A → Step B) → Step B
 and_then {A} step next (Ok b) = (a : A) × step (Ok a) × next a (Ok b)
 and_then {A} step next (Err report) = step (Err report) ⊎ ((a : A) × step (Ok a) × next a (Err report))
 
+infixl 10 ◌>>=◌
+abbrev pub ◌>>=◌ : {A B : Type 0} → Step A → (A → Step B) → Step B
+step >>= next = and_then step next
+
 -- what a chain comes to as a job: after a refusal nothing is written
 abbrev pub comes_to : Step Outcome → Outcome → Type 0
 comes_to step outcome = step (Ok outcome) ⊎ (step (Err outcome.report) × (outcome.outputs ≡ []))

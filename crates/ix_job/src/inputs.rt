@@ -1,6 +1,6 @@
 //! Reading the inputs.
 
-ghost use Rattle.std.specs.Prelude.{◌≡◌, ◌⊎◌, map, IfOk, IsErrOf};
+ghost use Rattle.std.specs.Prelude.{◌≡◌, ◌⊎◌, length, map, IfOk, IsErrOf};
 ghost use Rattle.ix_shelf.specs.Shelf.{NoneFalls, Rose, IsAbsent};
 ghost use Rattle.ix_job.specs.Steps.{IsContent, AreRead};
 
@@ -51,6 +51,7 @@ pub(crate) fn read_inputs<S: Shelf>(
     ensures write_faults { S.write_faults shelf.new ≡ S.write_faults shelf.old }
     ensures read_faults { NoneFalls (S.read_faults shelf.old) (S.read_faults shelf.new) }
     ensures read { AreRead (S.files shelf.old) (S.read_faults shelf.old) (S.read_faults shelf.new) (map (λ name. name.now) names.now) result }
+    ensures count { IfOk result (λ contents. length contents ≡ length names.now) }
 {
     let mut contents = Items::new(alloc);
     for i in 0..names.len() {

@@ -1,6 +1,6 @@
 //! The run of a job.
 
-ghost use Rattle.std.specs.Prelude.{◌≡◌, ◌≤◌, ◌<◌, Some, map, slice_get, vec_len, IfOk};
+ghost use Rattle.std.specs.Prelude.{◌≡◌, ◌≤◌, ◌<◌, Some, length, map, slice_get, vec_len, IfOk};
 ghost use Rattle.ix_shelf.specs.Shelf.{NoneFalls};
 ghost use Rattle.ix_job.specs.Outside.{outside, is_done as is_done_seen, Tells};
 ghost use Rattle.ix_job.specs.Job.{RunsJob, CompletesJob, job_of};
@@ -79,6 +79,7 @@ fn prepare<W: Work>(
     contents: &Items<Content>,
     outputs: &[&str],
 ) -> Result<Ready, Memory>
+    requires { length contents.now ≡ W.inputs_count work.now }
     ensures { IfOk result (IsMadeOf (W.is_outcome work.now) (map content_seen contents.now) (map (λ name. name.now) outputs.now)) }
 {
     let outcome = work.outcome(alloc, contents)?;
@@ -155,6 +156,7 @@ pub fn run_job<W: Work, S: Shelf, O: Sink>(
     shelf: &mut S,
     out: &mut O,
 ) -> Result<Report, Failed>
+    requires { length inputs.now ≡ W.inputs_count work.now }
     ensures run { RunsJob (W.is_outcome work.now) (job_of (map (λ name. name.now) inputs.now) (map (λ name. name.now) outputs.now))
         (outside S.files S.read_faults S.write_faults O.told O.faults shelf.old out.old)
         (outside S.files S.read_faults S.write_faults O.told O.faults shelf.new out.new) result }

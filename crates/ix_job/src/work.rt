@@ -1,6 +1,6 @@
 //! The work of a job.
 
-ghost use Rattle.std.specs.Prelude.{List, map, IfOk};
+ghost use Rattle.std.specs.Prelude.{◌≡◌, ℕ, List, length, map, IfOk};
 ghost use Rattle.ix_job.specs.Job.{Content as ContentSeen, Outcome as OutcomeSeen};
 ghost use Rattle.ix_job.specs.Views.{content_seen, outcome_seen};
 
@@ -29,10 +29,14 @@ pub struct Outcome {
 
 /// What is done with the contents of a job's inputs.
 pub trait Work {
+    /// How many inputs the job has.
+    ghost inputs_count: { Self → ℕ };
+
     /// Whether the job may come to this with these contents, which stand in the order of the inputs' names.
     ghost is_outcome: { Self → List ContentSeen → OutcomeSeen → Type 0 };
 
     /// What the job comes to. `Memory` is its only error.
     fn outcome(&self, alloc: Global, inputs: &Items<Content>) -> Result<Outcome, Memory>
+        requires { length inputs.now ≡ inputs_count self.now }
         ensures { IfOk result (λ outcome. is_outcome self.now (map content_seen inputs.now) (outcome_seen outcome)) };
 }

@@ -1,4 +1,4 @@
-use Rattle.std.proofs.Common.{◌∙◌, ap, Err, [], rules, arith}
+use Rattle.std.proofs.Common.{◌∙◌, ap, Err, [], ◌∷◌, length, length-append, rules, arith}
 use Rattle.ix_job.proofs.Setting.{text_at, one_more_seen, all_there, later_cause}
 use Rattle.ix_job.proofs.inputs.read_inputs.Goals as goal
 
@@ -12,6 +12,7 @@ returns-in-Err-Fault-clause-read g c = record {
 
 pub loop-i-preserved : goal.loop-i-preserved
 loop-i-preserved g c = record {
+  count = omega (arith, ap length c.in-Ok-push.ensures.ok, length-append c.loop-i.contents (c.in-Ok.content ∷ []), c.loop-i.invariant.count);
   files = search rules;
   read = λ name. omega (arith, c.loop-i.invariant.read name, c.in-Ok.ensures.read_faults name);
   write = search rules;

@@ -8,7 +8,8 @@ use std::alloc::Global;
 use std::process::Abort;
 use std::test::Fail;
 
-/// Lengths of files, and how many calls it takes to write one: the create, and an append for each 65,536 bytes.
+/// Lengths of files, and how many calls it takes to write one: the create, and an append for each
+/// 65,536 bytes.
 const WRITES: [(usize, u64); 4] = [(0, 1), (65_536, 2), (65_537, 3), (131_073, 4)];
 
 /// Whether the shelf has a file of this name and these bytes.
@@ -70,7 +71,8 @@ fn check_whole(rt: &impl Abort, alloc: Global, length: usize) -> Result<(), Fail
     Ok(())
 }
 
-/// What a write leaves whose call with this number failed, or would have: as many pieces as were added before it.
+/// What a write leaves whose call with this number failed, or would have: as many pieces as were
+/// added before it.
 fn pieces_before(bytes: &[u8], call: u64) -> &[u8]
     requires { 0 < call }
 {

@@ -1,5 +1,7 @@
 -- How many BELs admit a cell type, and whether they are enough.
-use Rattle.std.specs.Prelude.{◌≡◌, ◌<◌, ◌≤◌, ℕ, zero, suc, ◌+◌, List, length, slice_get, Bool, nat_eq, Option, Some, None, is_some, option_map, option_and_then, unwrap_or, if◌then◌else◌}
+use Rattle.std.specs.Prelude.{◌≡◌, ◌<◌, ◌≤◌, ℕ, zero, suc, ◌+◌, List, length, slice_get, Bool}
+use Rattle.std.specs.Prelude.{nat_eq, Option, Some, None, is_some, option_map, option_and_then}
+use Rattle.std.specs.Prelude.{unwrap_or, if◌then◌else◌}
 use Rattle.std.specs.List.{count_by}
 use Rattle.ix_rec.specs.declared.device.DeviceRec.{DeviceRec}
 use Rattle.ix_rec.specs.declared.device.SiteType.{SiteType}
@@ -28,7 +30,8 @@ bels_in_type rec ty t = count_below (admits rec ty t) (length t.bels)
 
 -- how many BELs of a site do
 unfoldable pub bels_at : DeviceRec → (ty site : ℕ) → ℕ
-bels_at rec ty site = unwrap_or (option_map (bels_in_type rec ty) (option_and_then (λ t. slice_get rec.site_type_list t) (type_of_site rec site))) 0
+bels_at rec ty site = unwrap_or (option_map (bels_in_type rec ty)
+    (option_and_then (λ t. slice_get rec.site_type_list t) (type_of_site rec site))) 0
 
 -- how many pairs of a site and a BEL of it admit the cell type
 unfoldable pub bels_of_device : DeviceRec → (ty : ℕ) → ℕ
@@ -48,14 +51,16 @@ pub record IsFirstShort (rec : DeviceRec) (all : List FlatCell) (short : Short) 
   pub cell : FlatCell
   pub at : slice_get all place ≡ Some cell
   pub kind : short.kind ≡ cell.ty
-  pub earlier : (q : ℕ) (other : FlatCell) → q < place → slice_get all q ≡ Some other → AreEnough rec all other.ty
+  pub earlier : (q : ℕ) (other : FlatCell) → q < place → slice_get all q ≡ Some other
+      → AreEnough rec all other.ty
   pub cells : short.cells ≡ cells_of_type short.kind all
   pub bels : short.bels ≡ bels_of_device rec short.kind
   pub fewer : short.bels < short.cells
 
 -- no type has too few BELs
 abbrev pub NoneShort : DeviceRec → List FlatCell → Type 0
-NoneShort rec cells = (q : ℕ) (cell : FlatCell) → slice_get cells q ≡ Some cell → AreEnough rec cells cell.ty
+NoneShort rec cells = (q : ℕ) (cell : FlatCell) → slice_get cells q ≡ Some cell
+    → AreEnough rec cells cell.ty
 
 abbrev pub IsShortTold : DeviceRec → List FlatCell → Option Short → Type 0
 IsShortTold rec cells None = NoneShort rec cells

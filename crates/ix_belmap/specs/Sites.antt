@@ -1,5 +1,6 @@
 -- What is known while cells and sites are counted.
-use Rattle.std.specs.Prelude.{◌≡◌, ◌<◌, ◌^◌, ℕ, List, length, slice_get, Bool, false, nat_eq, Option, Some, option_map, unwrap_or}
+use Rattle.std.specs.Prelude.{◌≡◌, ◌<◌, ◌^◌, ℕ, List, length, slice_get, Bool, false, nat_eq}
+use Rattle.std.specs.Prelude.{Option, Some, option_map, unwrap_or}
 use Rattle.std.specs.HashMap.{get}
 use Rattle.ix_rec.specs.declared.device.DeviceRec.{DeviceRec}
 use Rattle.ix_device.specs.Lookups.{sites_of, type_of_site}
@@ -20,5 +21,6 @@ sites_of_type rec t = count_below (is_of_type rec t) (length (sites_of rec))
 -- the numbers of sites of all site types
 pub record AreSiteCounts (rec : DeviceRec) (counts : List ℕ) : Type 0 where
   pub count : length counts ≡ length rec.site_type_list
-  pub each : (t : ℕ) → t < length rec.site_type_list → slice_get counts t ≡ Some (sites_of_type rec t)
+  pub each : (t : ℕ) → t < length rec.site_type_list
+      → slice_get counts t ≡ Some (sites_of_type rec t)
   pub few : length (sites_of rec) < 2 ^ 32

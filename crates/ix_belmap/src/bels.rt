@@ -2,7 +2,8 @@
 
 ghost use Rattle.std.specs.Prelude.{◌≡◌, ◌<◌, ◌≤◌, ◌^◌, ℕ, Some, length, slice_get, IfOk, IfSome};
 ghost use Rattle.ix_device.specs.Lookups.{sites_of};
-ghost use Rattle.ix_belmap.specs.Counts.{bels_in_type as bels_in_type_seen, bels_of_device as bels_of_device_seen};
+ghost use Rattle.ix_belmap.specs.Counts.{bels_in_type as bels_in_type_seen};
+ghost use Rattle.ix_belmap.specs.Counts.{bels_of_device as bels_of_device_seen};
 ghost use Rattle.ix_belmap.specs.Sites.{sites_of_type as sites_of_type_seen, AreSiteCounts};
 
 use ix_device::Device;
@@ -38,7 +39,8 @@ fn bel_at(device: &Device, t: SiteTypeId, place: usize) -> BelId
 // How many BELs of a site type admit a cell type.
 fn bels_in_type(device: &Device, ty: NameId, t: SiteTypeId) -> u64
     requires { t < length device.now.site_type_list }
-    ensures count { IfSome (slice_get device.now.site_type_list t) (λ seen. result ≡ bels_in_type_seen device.now ty seen) }
+    ensures count { IfSome (slice_get device.now.site_type_list t) (λ seen. result
+        ≡ bels_in_type_seen device.now ty seen) }
     ensures few { result ≤ 2 ^ 32 }
 {
     let mut count = 0;
@@ -89,8 +91,9 @@ fn sites_told(device: &Device, counts: Option<&Vec<u64>>, t: SiteTypeId) -> u64
     }
 }
 
-/// How many pairs of a site and a BEL of it admit a cell type. Where the counts of sites are there, no site is looked at;
-/// else the sites are walked once for each site type that admits the cell type.
+/// How many pairs of a site and a BEL of it admit a cell type. Where the counts of sites are there,
+/// no site is looked at; else the sites are walked once for each site type that admits the cell
+/// type.
 pub(crate) fn bels_of_device(device: &Device, ty: NameId, counts: Option<&Vec<u64>>) -> u64
     requires { IfSome counts (λ c. AreSiteCounts device.now c.now.items) }
     ensures { result ≡ bels_of_device_seen device.now ty }

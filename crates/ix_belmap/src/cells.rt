@@ -1,6 +1,7 @@
 //! How many cells are of each type.
 
-ghost use Rattle.std.specs.Prelude.{◌≡◌, ℕ, None, Some, nat_eq, unwrap_or, if◌then◌else◌, IfOk, OnOk};
+ghost use Rattle.std.specs.Prelude.{◌≡◌, ℕ, None, Some, nat_eq, unwrap_or, if◌then◌else◌, IfOk};
+ghost use Rattle.std.specs.Prelude.{OnOk};
 ghost use Rattle.ix_belmap.specs.Counts.{cells_of_type};
 ghost use Rattle.ix_belmap.specs.Sites.{of_type};
 
@@ -34,7 +35,8 @@ impl CellCounts {
 
     // Gives a type another count.
     fn set(&mut self, ty: NameId, count: u64) -> Result<(), Memory>
-        ensures { OnOk result ((q : ℕ) → of_type self.new q ≡ (if nat_eq ty q then Some count else of_type self.old q)) }
+        ensures { OnOk result ((q : ℕ) → of_type self.new q
+            ≡ (if nat_eq ty q then Some count else of_type self.old q)) }
     {
         self.counts.insert(ty.get(), count)?;
         Ok(())
@@ -43,7 +45,8 @@ impl CellCounts {
 
 /// How many cells each type has.
 pub(crate) fn cell_counts(alloc: Global, cells: &Items<FlatCell>) -> Result<CellCounts, Memory>
-    ensures { IfOk result (λ counts. (ty : ℕ) → unwrap_or (of_type counts ty) 0 ≡ cells_of_type ty cells.now) }
+    ensures { IfOk result (λ counts. (ty : ℕ)
+        → unwrap_or (of_type counts ty) 0 ≡ cells_of_type ty cells.now) }
 {
     let mut counts = CellCounts::new(alloc);
     for i in 0..cells.len() {

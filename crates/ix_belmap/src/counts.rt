@@ -23,16 +23,16 @@ pub struct Short {
     pub bels: u64,
 }
 
-/// How many BELs admit a cell type, each counted at each site. It takes no memory; the sites are walked once for each
-/// site type with such a BEL.
+/// How many BELs admit a cell type, each counted at each site. It takes no memory; the sites are
+/// walked once for each site type with such a BEL.
 pub fn count_bels(device: &Device, cell: NameId) -> u64
     ensures { result ≡ bels_of_device_seen device.now cell }
 {
     bels_of_device(device, cell, None)
 }
 
-/// The first type, by first cell, that has more cells than the BELs that admit it; none exactly where no type has.
-/// Sites are walked once, and the BELs of site types once for each cell type.
+/// The first type, by first cell, that has more cells than the BELs that admit it; none exactly
+/// where no type has. Sites are walked once, and the BELs of site types once for each cell type.
 ///
 /// # Errors
 ///

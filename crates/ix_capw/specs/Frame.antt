@@ -1,5 +1,5 @@
--- The frame that a builder writes: one segment, as Cap'n Proto's "Serialization Over a Stream" lays it out. A segment
--- is the list of its bytes, a word eight of them, the lowest first.
+-- The frame that a builder writes: one segment, as Cap'n Proto's "Serialization Over a Stream" lays
+-- it out. A segment is the list of its bytes, a word eight of them, the lowest first.
 use Rattle.std.specs.Prelude.{ℕ, ◌+◌, ◌*◌, ◌/◌, ◌^◌, List, ◌++◌, length, replicate}
 use Rattle.byteorder.specs.Endian.{little_bytes}
 
@@ -17,7 +17,8 @@ root_pointer words pointers = words * 2 ^ 32 + pointers * 2 ^ 48
 
 -- the segment of a message whose root struct has these two sections, all of it zero
 abbrev pub root_segment : (words pointers : ℕ) → List ℕ
-root_segment words pointers = little_bytes 8 (root_pointer words pointers) ++ replicate (8 * (words + pointers)) 0
+root_segment words pointers = little_bytes 8 (root_pointer words pointers)
+    ++ replicate (8 * (words + pointers)) 0
 
 -- the file: how many segments less one, how many words the segment has, the segment
 abbrev pub frame_bytes : List ℕ → List ℕ

@@ -1,8 +1,11 @@
--- What a builder's calls do to its segment: bytes are written over others, a pointer is set, and the object that it leads
--- to is put at the end.
-use Rattle.std.specs.Prelude.{◌≡◌, ◌≤◌, ◌<◌, ℕ, ◌+◌, ◌-◌, ◌*◌, ◌%◌, ◌^◌, List, [], ◌∷◌, ◌++◌, length, take, drop, replicate, Bool, true, not, ◌||◌, nat_lt, nat_le, ◌==◌, if◌then◌else◌}
+-- What a builder's calls do to its segment: bytes are written over others, a pointer is set, and
+-- the object that it leads to is put at the end.
+use Rattle.std.specs.Prelude.{◌≡◌, ◌≤◌, ◌<◌, ℕ, ◌+◌, ◌-◌, ◌*◌, ◌%◌, ◌^◌, List, [], ◌∷◌, ◌++◌}
+use Rattle.std.specs.Prelude.{length, take, drop, replicate, Bool, true, not, ◌||◌, nat_lt, nat_le}
+use Rattle.std.specs.Prelude.{◌==◌, if◌then◌else◌}
 use Rattle.byteorder.specs.Endian.{little_bytes}
-use Rattle.ix_message.specs.Layout.{Laid, nothing_laid, struct_pointer, list_pointer, padded, number_bytes}
+use Rattle.ix_message.specs.Layout.{Laid, nothing_laid, struct_pointer, list_pointer, padded}
+use Rattle.ix_message.specs.Layout.{number_bytes}
 use Rattle.ix_capw.specs.Frame.{words_in, too_many_words}
 use Rattle.ix_capw.specs.declared.builder.At.{At}
 use Rattle.ix_capw.specs.declared.builder.ListAt.{ListAt}
@@ -13,7 +16,8 @@ written place count bytes segment = take place segment ++ (bytes ++ drop (place 
 
 -- the segment once the pointer at this word leads to an object, which is put at the end
 abbrev pub with_object : (word : ℕ) → Laid → List ℕ → List ℕ
-with_object word x segment = written (8 * word) 8 (little_bytes 8 (x.pointer (words_in segment - (word + 1)))) segment ++ x.object
+with_object word x segment = written (8 * word) 8
+    (little_bytes 8 (x.pointer (words_in segment - (word + 1)))) segment ++ x.object
 
 -- whether an object is too long for the segment: it doesn't fit its count, or the words reach 2^27
 abbrev pub too_long : Laid → List ℕ → Bool
@@ -31,7 +35,8 @@ blank_struct words pointers = record {
 abbrev pub some_structs : (count words pointers : ℕ) → Laid
 some_structs count words pointers = record {
   pointer = list_pointer 7 (count * (words + pointers));
-  object = little_bytes 8 (struct_pointer words pointers count) ++ replicate (8 * (count * (words + pointers))) 0;
+  object = little_bytes 8 (struct_pointer words pointers count)
+      ++ replicate (8 * (count * (words + pointers))) 0;
   fits = nat_lt count (2 ^ 30);
 }
 
@@ -59,7 +64,8 @@ some_numbers values = record {
 
 -- an empty list is a zero pointer
 abbrev pub blank_structs : (count words pointers : ℕ) → Laid
-blank_structs count words pointers = if count == 0 then nothing_laid else some_structs count words pointers
+blank_structs count words pointers = if count == 0 then nothing_laid
+    else some_structs count words pointers
 
 abbrev pub blank_texts : (count : ℕ) → Laid
 blank_texts count = if count == 0 then nothing_laid else some_texts count

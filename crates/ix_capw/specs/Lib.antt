@@ -1,3 +1,5 @@
+-- What public contracts say.
 pub mod Frame
-pub mod Whole
 pub mod Growth
+-- For private contracts and proofs.
+pub mod Whole

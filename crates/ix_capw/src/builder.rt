@@ -1,11 +1,15 @@
 //! The builder of a message.
 
-ghost use Rattle.std.specs.Prelude.{◌≡◌, ◌+◌, ◌-◌, ◌*◌, ◌/◌, ◌%◌, ◌^◌, ◌<◌, ◌≤◌, ◌↔◌, [], ◌∷◌, ◌++◌, length, replicate, IsTrue, Ok, Err, IfOk, OnOk, OnErr};
+ghost use Rattle.std.specs.Prelude.{◌≡◌, ◌+◌, ◌-◌, ◌*◌, ◌/◌, ◌%◌, ◌^◌, ◌<◌, ◌≤◌, ◌↔◌, [], ◌∷◌};
+ghost use Rattle.std.specs.Prelude.{◌++◌, length, replicate, IsTrue, Ok, Err, IfOk, OnOk, OnErr};
 ghost use Rattle.byteorder.specs.Endian.{little_bytes};
 ghost use Rattle.ix_frame.specs.Segments.{segments};
 ghost use Rattle.ix_message.specs.Layout.{nothing_laid, number_bytes, text_laid, numbers_laid};
 ghost use Rattle.ix_capw.specs.Frame.{too_many_words, words_in, root_segment, frame_bytes};
-ghost use Rattle.ix_capw.specs.Growth.{written, with_object, too_long, blank_struct, blank_structs, blank_texts, some_structs, some_texts, some_text, some_numbers, pointer_word, number_place, IsInside, IsListInside, IsSegment};
+ghost use Rattle.ix_capw.specs.Growth.{written, with_object, too_long, blank_struct, blank_structs};
+ghost use Rattle.ix_capw.specs.Growth.{blank_texts, some_structs, some_texts, some_text};
+ghost use Rattle.ix_capw.specs.Growth.{some_numbers, pointer_word, number_place, IsInside};
+ghost use Rattle.ix_capw.specs.Growth.{IsListInside, IsSegment};
 ghost use Rattle.ix_capw.specs.declared.builder.BuildFault.TheVariants.{Memory};
 
 use crate::numbers::{
@@ -45,7 +49,8 @@ pub struct At {
     pub pointers: u16,
 }
 
-/// A list of the message: where its first element begins, the elements' sections, and how many they are.
+/// A list of the message: where its first element begins, the elements' sections, and how many they
+/// are.
 #[derive(Clone, Copy, Debug)]
 pub struct ListAt {
     /// The word of the segment at which the first element begins.
@@ -63,7 +68,11 @@ impl ListAt {
     pub fn at(self, i: u32) -> At
         requires within { i < self.count }
         requires inside { self.start + self.count * (self.words + self.pointers) < 2 ^ 27 }
-        ensures { result ≡ record { start = self.start + i * (self.words + self.pointers); words = self.words; pointers = self.pointers } }
+        ensures { result ≡ record {
+          start = self.start + i * (self.words + self.pointers);
+          words = self.words;
+          pointers = self.pointers;
+        } }
     {
         let size = self.words as u32 + self.pointers as u32;
         At {
@@ -89,10 +98,12 @@ fn list_head(size: u8, count: u32) -> u64
     1 + (size as u64) * (1 << 32) + (count as u64) * (1 << 35)
 }
 
-/// A message of one segment that is being written. In contracts it is the list of the segment's bytes so far.
+/// A message of one segment that is being written. In contracts it is the list of the segment's
+/// bytes so far.
 #[derive(Drop)]
 pub struct Builder {
-    // The file so far: a header of 8 bytes, which `finish` fills in, and then the segment; or nothing at all.
+    // The file so far: a header of 8 bytes, which `finish` fills in, and then the segment; or
+    // nothing at all.
     bytes: Vec<u8>,
 }
 
@@ -117,8 +128,8 @@ impl Builder {
         }
     }
 
-    /// Makes the root struct, with data and pointer sections of these sizes in words, all of them zero. It is the
-    /// first call. After a refusal the message is as before.
+    /// Makes the root struct, with data and pointer sections of these sizes in words, all of them
+    /// zero. It is the first call. After a refusal the message is as before.
     ///
     /// # Errors
     ///
@@ -126,8 +137,13 @@ impl Builder {
     pub fn root(&mut self, words: u16, pointers: u16) -> Result<At, BuildFault>
         requires { self.old ≡ [] }
         ensures made { OnOk result (self.new ≡ root_segment words pointers) }
-        ensures at { IfOk result (λ at. at ≡ record { start = 1; words = words; pointers = pointers }) }
-        ensures too_long { (result ≡ Err BuildFault.TooLong) ↔ (too_many_words ≤ 1 + words + pointers) }
+        ensures at { IfOk result (λ at. at ≡ record {
+          start = 1;
+          words = words;
+          pointers = pointers;
+        }) }
+        ensures too_long { (result ≡ Err BuildFault.TooLong)
+            ↔ (too_many_words ≤ 1 + words + pointers) }
         ensures unchanged { OnErr result (self.new ≡ self.old) }
         ensures segment { IsSegment self.new }
     {
@@ -139,8 +155,8 @@ impl Builder {
         })
     }
 
-    /// Makes a struct with data and pointer sections of these sizes in words, all of them zero, and leads the pointer
-    /// in this slot to it. After a refusal the message is as before.
+    /// Makes a struct with data and pointer sections of these sizes in words, all of them zero, and
+    /// leads the pointer in this slot to it. After a refusal the message is as before.
     ///
     /// # Errors
     ///
@@ -148,9 +164,12 @@ impl Builder {
     pub fn obj(&mut self, at: At, slot: u16, words: u16, pointers: u16) -> Result<At, BuildFault>
         requires inside { IsInside at self.old }
         requires slot { slot < at.pointers }
-        ensures made { OnOk result (self.new ≡ with_object (pointer_word at slot) (blank_struct words pointers) self.old) }
-        ensures at { IfOk result (λ made. made ≡ record { start = words_in self.old; words = words; pointers = pointers }) }
-        ensures too_long { (result ≡ Err BuildFault.TooLong) ↔ IsTrue (too_long (blank_struct words pointers) self.old) }
+        ensures made { OnOk result (self.new ≡ with_object (pointer_word at slot)
+            (blank_struct words pointers) self.old) }
+        ensures at { IfOk result (λ made. made
+            ≡ record { start = words_in self.old; words = words; pointers = pointers }) }
+        ensures too_long { (result ≡ Err BuildFault.TooLong)
+            ↔ IsTrue (too_long (blank_struct words pointers) self.old) }
         ensures unchanged { OnErr result (self.new ≡ self.old) }
         ensures segment { IsSegment self.new }
     {
@@ -167,8 +186,9 @@ impl Builder {
         })
     }
 
-    /// Makes a list of so many structs with data and pointer sections of these sizes in words, all of them zero, and
-    /// leads the pointer in this slot to it. An empty list is a zero pointer. After a refusal the message is as before.
+    /// Makes a list of so many structs with data and pointer sections of these sizes in words, all
+    /// of them zero, and leads the pointer in this slot to it. An empty list is a zero pointer.
+    /// After a refusal the message is as before.
     ///
     /// # Errors
     ///
@@ -183,9 +203,17 @@ impl Builder {
     ) -> Result<ListAt, BuildFault>
         requires inside { IsInside at self.old }
         requires slot { slot < at.pointers }
-        ensures made { OnOk result (self.new ≡ with_object (pointer_word at slot) (blank_structs count words pointers) self.old) }
-        ensures list { IfOk result (λ made. made ≡ record { start = words_in self.old + 1; words = words; pointers = pointers; count = count }) }
-        ensures too_long { (result ≡ Err BuildFault.TooLong) ↔ IsTrue (too_long (blank_structs count words pointers) self.old) }
+        ensures made { OnOk result (self.new ≡ with_object (pointer_word at slot)
+            (blank_structs count words pointers) self.old) }
+        ensures list { IfOk result (λ made. made
+            ≡ record {
+              start = words_in self.old + 1;
+              words = words;
+              pointers = pointers;
+              count = count;
+            }) }
+        ensures too_long { (result ≡ Err BuildFault.TooLong)
+            ↔ IsTrue (too_long (blank_structs count words pointers) self.old) }
         ensures unchanged { OnErr result (self.new ≡ self.old) }
         ensures segment { IsSegment self.new }
     {
@@ -208,9 +236,9 @@ impl Builder {
         Ok(made)
     }
 
-    /// Makes a list of so many texts, all of them empty, and leads the pointer in this slot to it. The pointer in slot 0
-    /// of its i-th element is that of the i-th text. An empty list is a zero pointer. After a refusal the message is as
-    /// before.
+    /// Makes a list of so many texts, all of them empty, and leads the pointer in this slot to it.
+    /// The pointer in slot 0 of its i-th element is that of the i-th text. An empty list is a zero
+    /// pointer. After a refusal the message is as before.
     ///
     /// # Errors
     ///
@@ -218,9 +246,12 @@ impl Builder {
     pub fn texts(&mut self, at: At, slot: u16, count: u32) -> Result<ListAt, BuildFault>
         requires inside { IsInside at self.old }
         requires slot { slot < at.pointers }
-        ensures made { OnOk result (self.new ≡ with_object (pointer_word at slot) (blank_texts count) self.old) }
-        ensures list { IfOk result (λ made. made ≡ record { start = words_in self.old; words = 0; pointers = 1; count = count }) }
-        ensures too_long { (result ≡ Err BuildFault.TooLong) ↔ IsTrue (too_long (blank_texts count) self.old) }
+        ensures made { OnOk result (self.new ≡ with_object (pointer_word at slot)
+            (blank_texts count) self.old) }
+        ensures list { IfOk result (λ made. made
+            ≡ record { start = words_in self.old; words = 0; pointers = 1; count = count }) }
+        ensures too_long { (result ≡ Err BuildFault.TooLong)
+            ↔ IsTrue (too_long (blank_texts count) self.old) }
         ensures unchanged { OnErr result (self.new ≡ self.old) }
         ensures segment { IsSegment self.new }
     {
@@ -242,8 +273,8 @@ impl Builder {
         Ok(made)
     }
 
-    /// Puts a list of numbers of four bytes each, and leads the pointer in this slot to it. An empty list is a zero
-    /// pointer. After a refusal the message is as before.
+    /// Puts a list of numbers of four bytes each, and leads the pointer in this slot to it. An
+    /// empty list is a zero pointer. After a refusal the message is as before.
     ///
     /// # Errors
     ///
@@ -251,8 +282,10 @@ impl Builder {
     pub fn numbers(&mut self, at: At, slot: u16, values: &[u32]) -> Result<(), BuildFault>
         requires inside { IsInside at self.old }
         requires slot { slot < at.pointers }
-        ensures made { OnOk result (self.new ≡ with_object (pointer_word at slot) (numbers_laid values.now) self.old) }
-        ensures too_long { (result ≡ Err BuildFault.TooLong) ↔ IsTrue (too_long (numbers_laid values.now) self.old) }
+        ensures made { OnOk result (self.new ≡ with_object (pointer_word at slot)
+            (numbers_laid values.now) self.old) }
+        ensures too_long { (result ≡ Err BuildFault.TooLong)
+            ↔ IsTrue (too_long (numbers_laid values.now) self.old) }
         ensures unchanged { OnErr result (self.new ≡ self.old) }
         ensures segment { IsSegment self.new }
     {
@@ -270,8 +303,8 @@ impl Builder {
         }
     }
 
-    /// Puts a text, padded with zero bytes to a word, and leads the pointer in this slot to it. An empty text is a zero
-    /// pointer. After a refusal the message is as before.
+    /// Puts a text, padded with zero bytes to a word, and leads the pointer in this slot to it. An
+    /// empty text is a zero pointer. After a refusal the message is as before.
     ///
     /// # Errors
     ///
@@ -279,8 +312,10 @@ impl Builder {
     pub fn set_text(&mut self, at: At, slot: u16, text: &str) -> Result<(), BuildFault>
         requires inside { IsInside at self.old }
         requires slot { slot < at.pointers }
-        ensures made { OnOk result (self.new ≡ with_object (pointer_word at slot) (text_laid text.now) self.old) }
-        ensures too_long { (result ≡ Err BuildFault.TooLong) ↔ IsTrue (too_long (text_laid text.now) self.old) }
+        ensures made { OnOk result (self.new ≡ with_object (pointer_word at slot)
+            (text_laid text.now) self.old) }
+        ensures too_long { (result ≡ Err BuildFault.TooLong)
+            ↔ IsTrue (too_long (text_laid text.now) self.old) }
         ensures unchanged { OnErr result (self.new ≡ self.old) }
         ensures segment { IsSegment self.new }
     {
@@ -330,7 +365,8 @@ impl Builder {
         requires slot { slot < at.pointers }
         requires room { words_in self.old + (1 + count * (words + pointers)) < too_many_words }
         requires few { count < 2 ^ 30 }
-        ensures ok { OnOk result (self.new ≡ with_object (pointer_word at slot) (some_structs count words pointers) self.old) }
+        ensures ok { OnOk result (self.new ≡ with_object (pointer_word at slot)
+            (some_structs count words pointers) self.old) }
         ensures err { OnErr result (self.new ≡ self.old) }
         ensures segment { IsSegment self.new }
     {
@@ -348,7 +384,8 @@ impl Builder {
         requires inside { IsInside at self.old }
         requires slot { slot < at.pointers }
         requires room { words_in self.old + count < too_many_words }
-        ensures ok { OnOk result (self.new ≡ with_object (pointer_word at slot) (some_texts count) self.old) }
+        ensures ok { OnOk result (self.new ≡ with_object (pointer_word at slot) (some_texts count)
+            self.old) }
         ensures err { OnErr result (self.new ≡ self.old) }
         ensures segment { IsSegment self.new }
     {
@@ -360,8 +397,10 @@ impl Builder {
     fn add_numbers(&mut self, at: At, slot: u16, values: &[u32]) -> Result<(), AllocError>
         requires inside { IsInside at self.old }
         requires slot { slot < at.pointers }
-        requires room { words_in self.old + (length values.now / 2 + length values.now % 2) < too_many_words }
-        ensures ok { OnOk result (self.new ≡ with_object (pointer_word at slot) (some_numbers values.now) self.old) }
+        requires room { words_in self.old + (length values.now / 2 + length values.now % 2)
+            < too_many_words }
+        ensures ok { OnOk result (self.new ≡ with_object (pointer_word at slot)
+            (some_numbers values.now) self.old) }
         ensures err { OnErr result (self.new ≡ self.old) }
         ensures segment { IsSegment self.new }
     {
@@ -378,7 +417,8 @@ impl Builder {
         requires slot { slot < at.pointers }
         requires room { words_in self.old + (length text.now / 8 + 1) < too_many_words }
         requires few { length text.now < 2 ^ 29 - 1 }
-        ensures ok { OnOk result (self.new ≡ with_object (pointer_word at slot) (some_text text.now) self.old) }
+        ensures ok { OnOk result (self.new ≡ with_object (pointer_word at slot) (some_text text.now)
+            self.old) }
         ensures err { OnErr result (self.new ≡ self.old) }
         ensures segment { IsSegment self.new }
     {
@@ -419,7 +459,8 @@ impl Builder {
         requires few { length numbers.now < 2 ^ 28 }
         requires some { 8 ≤ length self.old }
         requires inside { place + 4 * length numbers.now ≤ length self.old }
-        ensures made { self.new ≡ written place (4 * length numbers.now) (number_bytes numbers.now) self.old }
+        ensures made { self.new ≡ written place (4 * length numbers.now) (number_bytes numbers.now)
+            self.old }
         ensures segment { IsSegment self.new }
     {
         set_numbers(&mut self.bytes, 8 + place, numbers);
@@ -445,14 +486,17 @@ impl Builder {
         words < (1 << 27) - self.len()
     }
 
-    // Leads the pointer in this slot to an object of so many words at the end, all of them zero. The pointer's word is
-    // `head`, and in it how many words behind the pointer the object begins.
+    // Leads the pointer in this slot to an object of so many words at the end, all of them zero.
+    // The pointer's word is `head`, and in it how many words behind the pointer the object begins.
     fn add(&mut self, at: At, slot: u16, head: u64, words: usize) -> Result<(), AllocError>
         requires inside { IsInside at self.old }
         requires slot { slot < at.pointers }
         requires head { head < 2 ^ 64 - 2 ^ 30 }
         requires room { words_in self.old + words < too_many_words }
-        ensures ok { let word = pointer_word at slot in OnOk result (self.new ≡ written (8 * word) 8 (little_bytes 8 (head + 4 * (words_in self.old - (word + 1)))) self.old ++ replicate (8 * words) 0) }
+        ensures ok { let word = pointer_word at slot
+            in OnOk result (self.new ≡ written (8 * word) 8
+            (little_bytes 8 (head + 4 * (words_in self.old - (word + 1)))) self.old
+            ++ replicate (8 * words) 0) }
         ensures err { OnErr result (self.new ≡ self.old) }
         ensures segment { IsSegment self.new }
     {

@@ -1,6 +1,7 @@
 //! Numbers written into the bytes of a file.
 
-ghost use Rattle.std.specs.Prelude.{◌≡◌, ◌+◌, ◌*◌, ◌≤◌, ◌<◌, ◌%◌, ◌/◌, ◌^◌, ◌++◌, [], length, take, drop, vec_len, replicate, OnOk, OnErr};
+ghost use Rattle.std.specs.Prelude.{◌≡◌, ◌+◌, ◌*◌, ◌≤◌, ◌<◌, ◌%◌, ◌/◌, ◌^◌, ◌++◌, [], length, take};
+ghost use Rattle.std.specs.Prelude.{drop, vec_len, replicate, OnOk, OnErr};
 ghost use Rattle.byteorder.specs.Endian.{little_bytes};
 ghost use Rattle.ix_capw.specs.Frame.{root_segment, frame_bytes};
 ghost use Rattle.ix_capw.specs.Growth.{written};
@@ -63,7 +64,8 @@ pub(crate) fn put_object(
 ) -> Result<(), AllocError>
     requires inside { at + 8 ≤ vec_len bytes.old }
     requires few { vec_len bytes.old + size < 2 ^ 31 }
-    ensures ok { OnOk result (bytes.new.items ≡ written at 8 (little_bytes 8 pointer) bytes.old.items ++ replicate size 0) }
+    ensures ok { OnOk result (bytes.new.items
+        ≡ written at 8 (little_bytes 8 pointer) bytes.old.items ++ replicate size 0) }
     ensures err { OnErr result (bytes.new.items ≡ bytes.old.items) }
 {
     let whole = bytes.len() + size;
@@ -100,7 +102,8 @@ pub(crate) fn set_bytes(bytes: &mut Vec<u8>, at: usize, text: &[u8])
 pub(crate) fn set_numbers(bytes: &mut Vec<u8>, at: usize, numbers: &[u32])
     requires few { length numbers.now < 2 ^ 28 }
     requires inside { at + 4 * length numbers.now ≤ vec_len bytes.old }
-    ensures made { bytes.new.items ≡ written at (4 * length numbers.now) (number_bytes numbers.now) bytes.old.items }
+    ensures made { bytes.new.items ≡ written at (4 * length numbers.now) (number_bytes numbers.now)
+        bytes.old.items }
     ensures len { vec_len bytes.new ≡ vec_len bytes.old }
 {
     put_numbers(bytes.as_mut_slice(), at, numbers);

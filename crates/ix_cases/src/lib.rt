@@ -1,7 +1,9 @@
-//! What the programs that try cases share: the fields of a line, and bytes written as hexadecimal digits.
+//! What the programs that try cases share: the fields of a line, and bytes written as hexadecimal
+//! digits.
 //!
-//! A file of cases has a case on each line, its fields with `|` between them; the first field says what the case shows.
-//! A program prints a line for each case, and its stored output is the table of answers.
+//! A file of cases has a case on each line, its fields with `|` between them; the first field says
+//! what the case shows. A program prints a line for each case, and its stored output is the table
+//! of answers.
 #![tactic(auto)]
 
 mod fields;

@@ -17,7 +17,8 @@ is_carried c carried = false
 -- the numbers of the nodes that carry a constant, rising
 abbrev pub nodes_carrying : Constant → Graph → List ℕ
 nodes_carrying c graph =
-    filter (λ n. is_carried c (slice_get graph.constants n)) (range_with_len 0 (length graph.firsts))
+    filter (λ n. is_carried c (slice_get graph.constants n))
+    (range_with_len 0 (length graph.firsts))
 
 -- the constant for which cells of the type of this name stand; a type that stands for both is gnd's
 abbrev pub constant_of_type : (cell : ℕ) → Constants → Option Constant

@@ -19,8 +19,8 @@ fn carries(graph: &NodeGraph, node: NodeId, c: Constant) -> bool
     }
 }
 
-/// The nodes that carry a constant, by rising number: those of which a wire is listed with it by its
-/// tile's type or named by a node source, and none with the other. Time is linear in the nodes.
+/// The nodes that carry a constant, by rising number: those of which a wire is listed with it by
+/// its tile's type or named by a node source, and none with the other. Time is linear in the nodes.
 /// `Memory` is the only error.
 pub fn const_nodes(alloc: Global, graph: &NodeGraph, c: Constant) -> Result<Vec<NodeId>, Memory>
     ensures { IfOk result (λ nodes. nodes.items ≡ nodes_carrying c graph.now) }

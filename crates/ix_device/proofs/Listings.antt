@@ -14,7 +14,7 @@ use Rattle.ix_rec.specs.declared.device.CellBelMapping.{CellBelMapping}
 use Rattle.ix_rec.specs.declared.device.CommonCellBelPinMaps.{CommonCellBelPinMaps}
 use Rattle.ix_device_rules.specs.Rules.{has_pin, is_new}
 use Rattle.ix_device.specs.Admission.{lists_bel, fits_bel, pins_differ}
-use Rattle.ix_device.specs.declared.admissions.PinMap.{PinMap}
+use Rattle.ix_device.specs.declared.admissions.CellPinMap.{CellPinMap}
 use Rattle.ix_device.specs.Premises.{TypesDiffer}
 use Rattle.ix_device.proofs.FirstPlaces.{none-place}
 use Rattle.ix_keys.specs.declared.key.Key.{Key}
@@ -95,7 +95,7 @@ spread_cells false true c = refl
 spread_cells false false c = refl
 
 -- one more entry was put
-pub one_more_entry : (types : List SiteType) (old now new : FirstByKey Listing) (map : PinMap) (entries : List SiteTypeBelEntry) (pins : List CellBelPinEntry) (i : ℕ) (e : SiteTypeBelEntry)
+pub one_more_entry : (types : List SiteType) (old now new : FirstByKey Listing) (map : CellPinMap) (entries : List SiteTypeBelEntry) (pins : List CellBelPinEntry) (i : ℕ) (e : SiteTypeBelEntry)
     → slice_get entries i ≡ Some e → PutsMap types old now map (take i entries) pins → PutsMap types now new map (e ∷ []) pins → PutsMap types old new map (take (i + 1) entries) pins
 one_more_entry types old now new map entries pins i e at before step k t at_k bel cell =
     step k t at_k bel cell ∙ ap (λ o. or_later o ((entry_lists t bel e || false) && nat_eq map.cell cell) v) (before k t at_k bel cell)
@@ -110,7 +110,7 @@ later_false (Some w) v = refl
 later_false None v = refl
 
 -- an entry of a site type that isn't there was passed over
-pub passed_entry : (types : List SiteType) (table : FirstByKey Listing) (map : PinMap) (e : SiteTypeBelEntry) (pins : List CellBelPinEntry) → position (λ u. nat_eq u.name e.site_type) types ≡ None → PutsMap types table table map (e ∷ []) pins
+pub passed_entry : (types : List SiteType) (table : FirstByKey Listing) (map : CellPinMap) (e : SiteTypeBelEntry) (pins : List CellBelPinEntry) → position (λ u. nat_eq u.name e.site_type) types ≡ None → PutsMap types table table map (e ∷ []) pins
 passed_entry types table map e pins none k t at bel cell =
     sym (ap (λ b. or_later (value_at table (key k bel cell)) (((b && list_any (nat_eq bel) e.bels) || false) && nat_eq map.cell cell) v) (unowned types e.site_type k t none at) ∙ later_false (value_at table (key k bel cell)) v)
   where
@@ -118,7 +118,7 @@ passed_entry types table map e pins none k t at bel cell =
     v = listing map.mapping map.pin_map (map.differ && list_all (λ p. has_pin t bel p.bel_pin) pins)
 
 -- the BELs of an entry were put
-pub put_of_entry : (types : List SiteType) (old new : FirstByKey Listing) (map : PinMap) (e : SiteTypeBelEntry) (pins : List CellBelPinEntry) (owner : ℕ) (u : SiteType)
+pub put_of_entry : (types : List SiteType) (old new : FirstByKey Listing) (map : CellPinMap) (e : SiteTypeBelEntry) (pins : List CellBelPinEntry) (owner : ℕ) (u : SiteType)
     → TypesDiffer types → position (λ v. nat_eq v.name e.site_type) types ≡ Some owner → slice_get types owner ≡ Some u
     → ((q : Key) → value_at new q ≡ or_later (value_at old q) (names_one owner map.cell e.bels q) (listing map.mapping map.pin_map (map.differ && list_all (λ p. has_pin u q.part p.bel_pin) pins)))
     → PutsMap types old new map (e ∷ []) pins
@@ -164,7 +164,7 @@ found_or None f false true v = refl
 found_or None f false false v = refl
 
 -- one more map of a cell type was put
-pub one_more_map : (types : List SiteType) (old now new : FirstByKey Listing) (map : PinMap) (place : ℕ) (maps : List CommonCellBelPinMaps) (i : ℕ) (m : CommonCellBelPinMaps)
+pub one_more_map : (types : List SiteType) (old now new : FirstByKey Listing) (map : CellPinMap) (place : ℕ) (maps : List CommonCellBelPinMaps) (i : ℕ) (m : CommonCellBelPinMaps)
     → slice_get maps i ≡ Some m → map.mapping ≡ place → map.pin_map ≡ i → map.differ ≡ pins_differ m.pins
     → PutsMapping types old now place map.cell (take i maps) → PutsMap types now new map m.site_types m.pins → PutsMapping types old new place map.cell (take (i + 1) maps)
 one_more_map types old now new map place maps i m at is_place is_map differ before step k t at_k bel q =

@@ -19,8 +19,10 @@ pub record AreTables (rec : DeviceRec) (t : Tables) : Type 0 where
   pub site_types : (name : ℕ) → value_at t.site_types (name_key name) ≡ site_type_number rec name
   pub entries : AreSites rec t.entries
   pub few : length t.entries < 2 ^ 32
-  pub sites : (name : ℕ) → value_at t.sites (name_key name) ≡ position (λ e. nat_eq e.name name) t.entries
-  pub wires : (k : ℕ) (ty : TileType) → slice_get rec.tile_type_list k ≡ Some ty → (name : ℕ) → value_at t.wires (key k 0 name) ≡ wire_of_type name ty
+  pub sites : (name : ℕ) → value_at t.sites (name_key name)
+      ≡ position (λ e. nat_eq e.name name) t.entries
+  pub wires : (k : ℕ) (ty : TileType) → slice_get rec.tile_type_list k ≡ Some ty → (name : ℕ)
+      → value_at t.wires (key k 0 name) ≡ wire_of_type name ty
   pub types : AreAllTypeTables rec t.types
   pub lut_types : (cell : ℕ) → value_at t.lut_types (name_key cell) ≡ lut_inputs_of rec cell
   pub elements : AreNumbered rec.lut_definitions.lut_elements t.elements

@@ -1,10 +1,14 @@
+-- What public contracts say.
 pub mod Lookups
 pub mod Elements
 pub mod Shapes
-pub mod Numbered
 pub mod Admission
 pub mod Sources
 pub mod SitePips
+pub mod PinsListed
+pub mod Faults
+-- For private contracts and proofs.
+pub mod Numbered
 pub mod Tables
 pub mod Listed
 pub mod Premises
@@ -16,5 +20,3 @@ pub mod Places
 pub mod TypeTables
 pub mod AllTables
 pub mod Valid
-pub mod PinsListed
-pub mod Faults

@@ -1,5 +1,6 @@
 -- The constants of BEL pins, by the names of site type, BEL and pin.
-use Rattle.std.specs.Prelude.{ℕ, List, [], ◌∷◌, slice_get, nat_eq, Bool, false, Option, Some, None, if◌then◌else◌, option_and_then}
+use Rattle.std.specs.Prelude.{ℕ, List, [], ◌∷◌, slice_get, nat_eq, Bool, false, Option, Some, None}
+use Rattle.std.specs.Prelude.{if◌then◌else◌, option_and_then}
 use Rattle.ix_num.specs.declared.resource.Constant.{Constant}
 use Rattle.ix_rec.specs.declared.device.DeviceRec.{DeviceRec}
 use Rattle.ix_rec.specs.declared.device.SiteType.{SiteType}
@@ -31,4 +32,5 @@ is_number n (Some m) = nat_eq n m
 -- the source of the BEL pin of this number, in a table by names: the first pin of its names has it
 abbrev pub source_of_pin : FirstByKey Constant → SiteType → ℕ → Option Constant
 source_of_pin table t pin =
-    option_and_then (λ p. if is_number pin (pin_of_bel p.bel p.name t) then value_at table (key t.name p.bel p.name) else None) (slice_get t.bel_pins pin)
+    option_and_then (λ p. if is_number pin (pin_of_bel p.bel p.name t)
+    then value_at table (key t.name p.bel p.name) else None) (slice_get t.bel_pins pin)

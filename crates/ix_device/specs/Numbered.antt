@@ -1,5 +1,6 @@
 -- The LUT elements of site types, by the name of the type and the element's number.
-use Rattle.std.specs.Prelude.{◌≡◌, ℕ, List, length, slice_get, Option, Some, option_map, option_and_then}
+use Rattle.std.specs.Prelude.{◌≡◌, ℕ, List, length, slice_get, Option, Some, option_map}
+use Rattle.std.specs.Prelude.{option_and_then}
 use Rattle.ix_rec.specs.declared.device.LutElement.{LutElement}
 use Rattle.ix_rec.specs.declared.device.SiteTypeLutElements.{SiteTypeLutElements}
 use Rattle.ix_keys.specs.Keys.{key}

@@ -6,4 +6,8 @@ use Rattle.ix_device.specs.declared.pins.PinList.{PinList}
 
 -- each cell pin of the map with its BEL pin
 abbrev pub pins_listed : PinList → List (ℕ × ℕ)
-pins_listed p = map (λ e. (e.cell_pin, unwrap_or (value_at p.bel_pins.now (key 0 p.bel e.bel_pin)) 0)) p.pins.now
+pins_listed p = map (λ e. (
+  e.cell_pin,
+  unwrap_or (value_at p.bel_pins.now (key 0 p.bel e.bel_pin))
+      0,
+)) p.pins.now

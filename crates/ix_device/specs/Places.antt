@@ -21,15 +21,19 @@ place_told p = (p.element, p.place)
 abbrev pub element_at : List SiteTypeLutElements → ElementPlace → Option LutElement
 element_at entries p = option_and_then (λ e. slice_get e.luts p.lut) (slice_get entries p.entry)
 
--- A table has the places of the BELs of these elements, by the names of their site types and their own. The elements are
--- told by the name of their site type, and stand in these entries.
-pub record ArePlaces (entries : List SiteTypeLutElements) (elements : ℕ → List LutElement) (table : FirstByKey ElementPlace) : Type 0 where
-  pub places : (ty bel : ℕ) → option_map place_told (value_at table (key ty 0 bel)) ≡ place_in bel (elements ty)
-  pub luts : (ty bel : ℕ) → option_map (element_at entries) (value_at table (key ty 0 bel)) ≡ option_map Some (find (element_has bel) (elements ty))
+-- A table has the places of the BELs of these elements, by the names of their site types and their
+-- own. The elements are told by the name of their site type, and stand in these entries.
+pub record ArePlaces (entries : List SiteTypeLutElements) (elements : ℕ
+    → List LutElement) (table : FirstByKey ElementPlace) : Type 0 where
+  pub places : (ty bel : ℕ) → option_map place_told (value_at table (key ty 0 bel))
+      ≡ place_in bel (elements ty)
+  pub luts : (ty bel : ℕ) → option_map (element_at entries) (value_at table (key ty 0 bel))
+      ≡ option_map Some (find (element_has bel) (elements ty))
 
 -- the place of the BEL of this number of a site type
 abbrev pub place_of_bel : FirstByKey ElementPlace → SiteType → ℕ → Option ElementPlace
-place_of_bel places t bel = option_and_then (λ b. value_at places (key t.name 0 b.name)) (slice_get t.bels bel)
+place_of_bel places t bel = option_and_then (λ b. value_at places (key t.name 0 b.name))
+    (slice_get t.bels bel)
 
 -- how many inputs the BEL of this number has in a usable element
 abbrev pub usable_inputs : DeviceRec → SiteType → ℕ → Option ℕ

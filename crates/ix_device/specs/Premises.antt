@@ -12,12 +12,15 @@ use Rattle.ix_device.specs.Lookups.{pin_of_bel}
 
 -- no two site types have one name
 abbrev pub TypesDiffer : List SiteType → Type 0
-TypesDiffer types = (k : ℕ) (t : SiteType) → slice_get types k ≡ Some t → position (λ u. nat_eq u.name t.name) types ≡ Some k
+TypesDiffer types = (k : ℕ) (t : SiteType) → slice_get types k ≡ Some t
+    → position (λ u. nat_eq u.name t.name) types ≡ Some k
 
 -- the tables of each site type find its BEL pins
 pub record FindPins (types : List SiteType) (tables : List TypeTables) : Type 0 where
   pub same_length : length tables ≡ length types
-  pub pins : (k : ℕ) (t : SiteType) (x : TypeTables) → slice_get types k ≡ Some t → slice_get tables k ≡ Some x → (bel name : ℕ) → value_at x.bel_pins (key 0 bel name) ≡ pin_of_bel bel name t
+  pub pins : (k : ℕ) (t : SiteType) (x : TypeTables) → slice_get types k ≡ Some t
+      → slice_get tables k ≡ Some x → (bel name : ℕ)
+      → value_at x.bel_pins (key 0 bel name) ≡ pin_of_bel bel name t
 
 -- the bits that a LUT BEL reads, one for each value of its inputs, are among 64
 pub record BelFits (b : LutBel) : Type 0 where

@@ -1,5 +1,6 @@
 -- Where site PIPs lead. Pins are those of BELs, by their numbers in the site type.
-use Rattle.std.specs.Prelude.{ℕ, List, Bool, true, false, not, ◌&&◌, nat_eq, slice_get, Option, None, option_map, unwrap_or, if◌then◌else◌}
+use Rattle.std.specs.Prelude.{ℕ, List, Bool, true, false, not, ◌&&◌, nat_eq, slice_get, Option}
+use Rattle.std.specs.Prelude.{None, option_map, unwrap_or, if◌then◌else◌}
 use Rattle.std.specs.List.{list_any, find}
 use Rattle.ix_rec.specs.declared.device.SiteType.{SiteType}
 use Rattle.ix_rec.specs.declared.device.Bel.{Bel}
@@ -25,11 +26,13 @@ is_for_routing SitePort = false
 
 -- the BEL of this name is for routing
 abbrev pub is_routing_bel : SiteType → ℕ → Bool
-is_routing_bel t name = unwrap_or (option_map (λ b. is_for_routing b.category) (find (λ b. nat_eq b.name name) t.bels)) false
+is_routing_bel t name = unwrap_or (option_map (λ b.
+    is_for_routing b.category) (find (λ b. nat_eq b.name name) t.bels)) false
 
 -- a site PIP from this pin may be used: no BEL inverts there, and the pin's BEL is for routing
 abbrev pub is_usable_from : SiteType → ℕ → Bool
-is_usable_from t pin = not (list_any (inverts_at pin) t.bels) && unwrap_or (option_map (λ p. is_routing_bel t p.bel) (slice_get t.bel_pins pin)) false
+is_usable_from t pin = not (list_any (inverts_at pin) t.bels)
+    && unwrap_or (option_map (λ p. is_routing_bel t p.bel) (slice_get t.bel_pins pin)) false
 
 -- where the first of these site PIPs from this pin leads
 abbrev pub first_from : ℕ → List SitePip → Option ℕ

@@ -16,12 +16,17 @@ pub record AreTypeTables (rec : DeviceRec) (t : SiteType) (tables : TypeTables) 
   pub bel_pins : (bel name : ℕ) → value_at tables.bel_pins (key 0 bel name) ≡ pin_of_bel bel name t
   pub site_pins : (name : ℕ) → value_at tables.site_pins (name_key name) ≡ site_pin_in name t
   pub wires : (pin : ℕ) → pin < length t.bel_pins → value_of tables.wires pin ≡ Some (wire_in pin t)
-  pub elements : (bel : ℕ) → bel < length t.bels → value_of tables.elements bel ≡ Some (element_of_bel rec bel t)
-  pub inputs : (bel : ℕ) → bel < length t.bels → value_of tables.inputs bel ≡ Some (usable_inputs rec t bel)
-  pub sources : (pin : ℕ) → pin < length t.bel_pins → value_of tables.sources pin ≡ Some (site_source_in rec pin t)
-  pub site_pips : (pin : ℕ) → pin < length t.bel_pins → value_of tables.site_pips pin ≡ Some (site_pip_from pin t)
+  pub elements : (bel : ℕ) → bel < length t.bels
+      → value_of tables.elements bel ≡ Some (element_of_bel rec bel t)
+  pub inputs : (bel : ℕ) → bel < length t.bels
+      → value_of tables.inputs bel ≡ Some (usable_inputs rec t bel)
+  pub sources : (pin : ℕ) → pin < length t.bel_pins
+      → value_of tables.sources pin ≡ Some (site_source_in rec pin t)
+  pub site_pips : (pin : ℕ) → pin < length t.bel_pins
+      → value_of tables.site_pips pin ≡ Some (site_pip_from pin t)
 
 -- the tables of all site types, in their order
 pub record AreAllTypeTables (rec : DeviceRec) (all : List TypeTables) : Type 0 where
   pub count : length all ≡ length rec.site_type_list
-  pub each : (i : ℕ) (t : SiteType) (tables : TypeTables) → slice_get rec.site_type_list i ≡ Some t → slice_get all i ≡ Some tables → AreTypeTables rec t tables
+  pub each : (i : ℕ) (t : SiteType) (tables : TypeTables) → slice_get rec.site_type_list i ≡ Some t
+      → slice_get all i ≡ Some tables → AreTypeTables rec t tables

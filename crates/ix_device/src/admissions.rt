@@ -1,6 +1,7 @@
 //! Which pin map lists a BEL for a cell type.
 
-ghost use Rattle.std.specs.Prelude.{◌≡◌, ◌&&◌, ℕ, [], ◌∷◌, nat_eq, is_some, map, slice_get, Some, IfOk, OnOk};
+ghost use Rattle.std.specs.Prelude.{◌≡◌, ◌&&◌, ℕ, [], ◌∷◌, nat_eq, is_some, map, slice_get, Some};
+ghost use Rattle.std.specs.Prelude.{IfOk, OnOk};
 ghost use Rattle.std.specs.List.{list_any, list_all, position};
 ghost use Rattle.ix_keys.specs.declared.key.Key.{Key as KeySeen};
 ghost use Rattle.ix_keys.specs.Keys.{key, name_key, key_eq};
@@ -86,7 +87,7 @@ fn bel_pins_differ(alloc: Global, pins: &Items<CellBelPinEntry>) -> Result<bool,
 
 // A pin map of a cell type, by its places, and whether it names no pin twice.
 #[derive(Clone, Copy)]
-struct PinMap {
+struct CellPinMap {
     cell: NameId,
     mapping: u32,
     pin_map: u32,
@@ -95,7 +96,7 @@ struct PinMap {
 
 // Whether a pin map names no pin twice and only pins of this BEL.
 fn fits_bel(
-    map: &PinMap,
+    map: &CellPinMap,
     t: &SiteType,
     bel_pins: &FirstByKey<BelPinId>,
     bel: NameId,
@@ -107,10 +108,11 @@ fn fits_bel(
     map.differ && are_pins_of(t, bel_pins, bel, pins)
 }
 
-// Puts a pin map's listing of a BEL of a site type, where it has none yet. The pins are looked at only then.
+// Puts a pin map's listing of a BEL of a site type, where it has none yet. The pins are looked at
+// only then.
 fn put_bel(
     table: &mut FirstByKey<Listing>,
-    map: &PinMap,
+    map: &CellPinMap,
     pins: &Items<CellBelPinEntry>,
     owner: SiteTypeId,
     t: &SiteType,
@@ -119,7 +121,9 @@ fn put_bel(
 ) -> Result<(), Memory>
     requires { (b p : ℕ) → value_at bel_pins.now (key 0 b p) ≡ pin_of_bel b p t.now }
     ensures { OnOk result ((q : KeySeen) → value_at table.new q
-        ≡ or_later (value_at table.old q) (key_eq (key owner bel map.now.cell) q) (listing map.now.mapping map.now.pin_map (map.now.differ && list_all (λ p. has_pin t.now bel p.bel_pin) pins.now))) }
+        ≡ or_later (value_at table.old q) (key_eq (key owner bel map.now.cell) q)
+        (listing map.now.mapping map.now.pin_map (map.now.differ
+        && list_all (λ p. has_pin t.now bel p.bel_pin) pins.now))) }
 {
     let key = Key::new(owner.get(), bel.get(), map.cell.get());
     if table.get(key).is_some() {
@@ -137,7 +141,7 @@ fn put_bel(
 // Puts a pin map's listing of these BELs of a site type, for each that has none yet.
 fn put_bels(
     table: &mut FirstByKey<Listing>,
-    map: &PinMap,
+    map: &CellPinMap,
     pins: &Items<CellBelPinEntry>,
     owner: SiteTypeId,
     t: &SiteType,
@@ -146,7 +150,9 @@ fn put_bels(
 ) -> Result<(), Memory>
     requires { (b p : ℕ) → value_at bel_pins.now (key 0 b p) ≡ pin_of_bel b p t.now }
     ensures { OnOk result ((q : KeySeen) → value_at table.new q
-        ≡ or_later (value_at table.old q) (names_one owner map.now.cell bels.now q) (listing map.now.mapping map.now.pin_map (map.now.differ && list_all (λ p. has_pin t.now q.part p.bel_pin) pins.now))) }
+        ≡ or_later (value_at table.old q) (names_one owner map.now.cell bels.now q)
+        (listing map.now.mapping map.now.pin_map (map.now.differ
+        && list_all (λ p. has_pin t.now q.part p.bel_pin) pins.now))) }
 {
     for i in 0..bels.len() {
         put_bel(table, map, pins, owner, t, bel_pins, *bels.at(i))?;
@@ -154,10 +160,11 @@ fn put_bels(
     Ok(())
 }
 
-// Puts a pin map's listings of the BELs of one entry. An entry of a site type that isn't there is without effect.
+// Puts a pin map's listings of the BELs of one entry. An entry of a site type that isn't there is
+// without effect.
 fn put_entry(
     table: &mut FirstByKey<Listing>,
-    map: &PinMap,
+    map: &CellPinMap,
     pins: &Items<CellBelPinEntry>,
     entry: &SiteTypeBelEntry,
     site_types: &FirstByKey<SiteTypeId>,
@@ -165,9 +172,11 @@ fn put_entry(
     tables: &Items<TypeTables>,
 ) -> Result<(), Memory>
     requires differ { TypesDiffer types.now }
-    requires named { (name : ℕ) → value_at site_types.now (name_key name) ≡ position (λ t. nat_eq t.name name) types.now }
+    requires named { (name : ℕ) → value_at site_types.now (name_key name)
+        ≡ position (λ t. nat_eq t.name name) types.now }
     requires find { FindPins types.now tables.now }
-    ensures { OnOk result (PutsMap types.now table.old table.new map.now (entry.now ∷ []) pins.now) }
+    ensures { OnOk result (PutsMap types.now table.old table.new map.now (entry.now ∷ [])
+        pins.now) }
 {
     match site_types.get(Key::of_name(entry.site_type.get())) {
         None => Ok(()),
@@ -184,7 +193,7 @@ fn put_entry(
 // Puts a pin map's listings of the BELs of these entries.
 fn put_map(
     table: &mut FirstByKey<Listing>,
-    map: &PinMap,
+    map: &CellPinMap,
     pins: &Items<CellBelPinEntry>,
     entries: &Items<SiteTypeBelEntry>,
     site_types: &FirstByKey<SiteTypeId>,
@@ -192,7 +201,8 @@ fn put_map(
     tables: &Items<TypeTables>,
 ) -> Result<(), Memory>
     requires differ { TypesDiffer types.now }
-    requires named { (name : ℕ) → value_at site_types.now (name_key name) ≡ position (λ t. nat_eq t.name name) types.now }
+    requires named { (name : ℕ) → value_at site_types.now (name_key name)
+        ≡ position (λ t. nat_eq t.name name) types.now }
     requires find { FindPins types.now tables.now }
     ensures { OnOk result (PutsMap types.now table.old table.new map.now entries.now pins.now) }
 {
@@ -223,13 +233,15 @@ fn put_mapping(
     tables: &Items<TypeTables>,
 ) -> Result<(), Memory>
     requires differ { TypesDiffer types.now }
-    requires named { (name : ℕ) → value_at site_types.now (name_key name) ≡ position (λ t. nat_eq t.name name) types.now }
+    requires named { (name : ℕ) → value_at site_types.now (name_key name)
+        ≡ position (λ t. nat_eq t.name name) types.now }
     requires find { FindPins types.now tables.now }
-    ensures { OnOk result (PutsMapping types.now table.old table.new place mapping.now.cell mapping.now.common_pins) }
+    ensures { OnOk result (PutsMapping types.now table.old table.new place mapping.now.cell
+        mapping.now.common_pins) }
 {
     for i in 0..mapping.common_pins.len() {
         let found = mapping.common_pins.at(i);
-        let map = PinMap {
+        let map = CellPinMap {
             cell: mapping.cell,
             mapping: place,
             pin_map: number_of(i)?,
@@ -248,8 +260,8 @@ fn put_mapping(
     Ok(())
 }
 
-/// The first pin map that lists each BEL for each cell type, under the site type's number, the BEL's name and the cell
-/// type's. Of several mappings of one cell type the first counts.
+/// The first pin map that lists each BEL for each cell type, under the site type's number, the
+/// BEL's name and the cell type's. Of several mappings of one cell type the first counts.
 pub(crate) fn listings(
     alloc: Global,
     mappings: &Items<CellBelMapping>,
@@ -258,7 +270,8 @@ pub(crate) fn listings(
     tables: &Items<TypeTables>,
 ) -> Result<FirstByKey<Listing>, Memory>
     requires differ { TypesDiffer types.now }
-    requires named { (name : ℕ) → value_at site_types.now (name_key name) ≡ position (λ t. nat_eq t.name name) types.now }
+    requires named { (name : ℕ) → value_at site_types.now (name_key name)
+        ≡ position (λ t. nat_eq t.name name) types.now }
     requires find { FindPins types.now tables.now }
     ensures { IfOk result (λ table. AreListings types.now table mappings.now) }
 {

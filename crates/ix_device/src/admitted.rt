@@ -1,6 +1,7 @@
 //! The pin map by which a BEL admits a cell type.
 
-ghost use Rattle.std.specs.Prelude.{◌≡◌, ◌<◌, Some, None, length, slice_get, option_map, unwrap_or, IfSome, IsSome};
+ghost use Rattle.std.specs.Prelude.{◌≡◌, ◌<◌, Some, None, length, slice_get, option_map, unwrap_or};
+ghost use Rattle.std.specs.Prelude.{IfSome, IsSome};
 ghost use Rattle.ix_keys.specs.Keys.{name_key};
 ghost use Rattle.ix_first.specs.First.{value_at, value_of};
 ghost use Rattle.ix_device.specs.Admission.{first_map, fits_bel, is_logic, has_inputs, pins_in};
@@ -54,7 +55,8 @@ fn is_logic(category: Category) -> bool
 // Whether a BEL has inputs enough in a usable LUT element, where the cell type is a LUT type.
 fn takes_lut(lut_types: &FirstByKey<u32>, inputs: &FirstById<u32>, cell: NameId, bel: BelId) -> bool
     requires { IsSome (value_of inputs.now bel) }
-    ensures { result ≡ has_inputs (value_at lut_types.now (name_key cell)) (unwrap_or (value_of inputs.now bel) None) }
+    ensures { result ≡ has_inputs (value_at lut_types.now (name_key cell))
+        (unwrap_or (value_of inputs.now bel) None) }
 {
     match lut_types.get(Key::of_name(cell.get())) {
         None => true,
@@ -65,7 +67,8 @@ fn takes_lut(lut_types: &FirstByKey<u32>, inputs: &FirstById<u32>, cell: NameId,
     }
 }
 
-/// The pins by which the BEL of this number of a site type admits the cell type; none exactly where it doesn't.
+/// The pins by which the BEL of this number of a site type admits the cell type; none exactly where
+/// it doesn't.
 pub(crate) fn pins_of<'a>(
     rec: &'a DeviceRec,
     tables: &'a Tables,

@@ -25,8 +25,8 @@ pub enum DeviceFault {
 }
 
 impl Device {
-    /// The device of a record, which is given up where it is refused. Its indexes are in their lists, and its names among
-    /// the names.
+    /// The device of a record, which is given up where it is refused. Its indexes are in their
+    /// lists, and its names among the names.
     ///
     /// # Errors
     ///

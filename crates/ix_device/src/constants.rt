@@ -6,7 +6,8 @@ ghost use Rattle.ix_keys.specs.Keys.{key, name_key};
 ghost use Rattle.ix_first.specs.First.{value_at};
 ghost use Rattle.ix_rec.specs.declared.device.TileType.{TileType as TypeSeen};
 ghost use Rattle.ix_device.specs.Lookups.{wire_of_type, tile_named};
-ghost use Rattle.ix_device.specs.Sources.{is_constant, lists_here, lists_constant, is_source, has_constant};
+ghost use Rattle.ix_device.specs.Sources.{is_constant, lists_here, lists_constant, is_source};
+ghost use Rattle.ix_device.specs.Sources.{has_constant};
 
 use crate::tile_wires::tile_wire;
 use ix_first::FirstByKey;
@@ -93,7 +94,8 @@ fn is_source(
     source: &NodeConstantSource,
 ) -> bool
     requires tiles { (name : ℕ) → value_at tiles.now (name_key name) ≡ tile_named rec.now name }
-    requires wires { (k : ℕ) (ty : TypeSeen) → slice_get rec.now.tile_type_list k ≡ Some ty → (name : ℕ) → value_at wires.now (key k 0 name) ≡ wire_of_type name ty }
+    requires wires { (k : ℕ) (ty : TypeSeen) → slice_get rec.now.tile_type_list k ≡ Some ty
+        → (name : ℕ) → value_at wires.now (key k 0 name) ≡ wire_of_type name ty }
     ensures { result ≡ is_source rec.now c source.now }
 {
     if !is_constant(c, source.constant) {
@@ -111,7 +113,8 @@ fn a_source_stands(
     sources: &Items<NodeConstantSource>,
 ) -> bool
     requires tiles { (name : ℕ) → value_at tiles.now (name_key name) ≡ tile_named rec.now name }
-    requires wires { (k : ℕ) (ty : TypeSeen) → slice_get rec.now.tile_type_list k ≡ Some ty → (name : ℕ) → value_at wires.now (key k 0 name) ≡ wire_of_type name ty }
+    requires wires { (k : ℕ) (ty : TypeSeen) → slice_get rec.now.tile_type_list k ≡ Some ty
+        → (name : ℕ) → value_at wires.now (key k 0 name) ≡ wire_of_type name ty }
     ensures { result ≡ list_any (is_source rec.now c) sources.now }
 {
     for i in 0..sources.len() {
@@ -131,7 +134,8 @@ pub(crate) fn has_constant(
     c: Constant,
 ) -> Result<bool, Memory>
     requires tiles { (name : ℕ) → value_at tiles.now (name_key name) ≡ tile_named rec.now name }
-    requires wires { (k : ℕ) (ty : TypeSeen) → slice_get rec.now.tile_type_list k ≡ Some ty → (name : ℕ) → value_at wires.now (key k 0 name) ≡ wire_of_type name ty }
+    requires wires { (k : ℕ) (ty : TypeSeen) → slice_get rec.now.tile_type_list k ≡ Some ty
+        → (name : ℕ) → value_at wires.now (key k 0 name) ≡ wire_of_type name ty }
     ensures { IfOk result (λ yes. yes ≡ has_constant rec.now c) }
 {
     let lists = types_that_list(alloc, &rec.tile_type_list, c)?;

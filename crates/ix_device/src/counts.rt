@@ -32,7 +32,8 @@ impl Counts {
 
     /// Gives a name another count.
     pub(crate) fn set(&mut self, name: NameId, count: u32) -> Result<(), Memory>
-        ensures { OnOk result ((q : ℕ) → count_at self.new q ≡ (if nat_eq name q then count else count_at self.old q)) }
+        ensures { OnOk result ((q : ℕ) → count_at self.new q
+            ≡ (if nat_eq name q then count else count_at self.old q)) }
     {
         self.counts.insert(name.get(), count)?;
         Ok(())

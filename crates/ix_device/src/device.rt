@@ -1,9 +1,15 @@
 //! A device, and what it tells by name and by number.
 
-ghost use Rattle.std.specs.Prelude.{◌≡◌, ◌<◌, Some, None, length, slice_get, option_map, is_some, IfSome};
+ghost use Rattle.std.specs.Prelude.{◌≡◌, ◌<◌, Some, None, length, slice_get, option_map, is_some};
+ghost use Rattle.std.specs.Prelude.{IfSome};
 ghost use Rattle.ix_rec.specs.Ranges.{IndexesFit, SiteTypeFits};
 ghost use Rattle.ix_device_rules.specs.Rules.{first_broken};
-ghost use Rattle.ix_device.specs.Lookups.{tile_named, site_type_number, site_named, sites_of, name_of_site, tile_of_site, type_of_site, place_of_site, row_and_column, wire_in_tile as wire_in_tile_seen, wire_of_site_pin as wire_of_site_pin_seen, IsInTile, tile_wire_named, in_type, bel_in, bel_pin_in, site_pin_in, wire_in};
+ghost use Rattle.ix_device.specs.Lookups.{tile_named, site_type_number, site_named, sites_of};
+ghost use Rattle.ix_device.specs.Lookups.{name_of_site, tile_of_site, type_of_site, place_of_site};
+ghost use Rattle.ix_device.specs.Lookups.{row_and_column, wire_in_tile as wire_in_tile_seen};
+ghost use Rattle.ix_device.specs.Lookups.{wire_of_site_pin as wire_of_site_pin_seen, IsInTile};
+ghost use Rattle.ix_device.specs.Lookups.{tile_wire_named, in_type, bel_in, bel_pin_in};
+ghost use Rattle.ix_device.specs.Lookups.{site_pin_in, wire_in};
 ghost use Rattle.ix_device.specs.Admission.{pins_in};
 ghost use Rattle.ix_device.specs.PinsListed.{pins_listed};
 ghost use Rattle.ix_device.specs.Elements.{lut_inputs_of, element_of_bel};
@@ -31,11 +37,11 @@ use ix_num::{
 use ix_rec::{DeviceRec, SiteType};
 use std::marker::Model;
 
-/// A device that keeps all its rules. In contracts it is its record. No look-up takes memory: one by name is one hash,
-/// one by number an index.
+/// A device that keeps all its rules. In contracts it is its record. No look-up takes memory: one
+/// by name is one hash, one by number an index.
 ///
-/// Numbers that are given to a look-up are in range: a site's below `sites`, a tile's, a site type's, a BEL's or a pin's
-/// below the length of its list in the record.
+/// Numbers that are given to a look-up are in range: a site's below `sites`, a tile's, a site
+/// type's, a BEL's or a pin's below the length of its list in the record.
 #[derive(Drop)]
 pub struct Device {
     pub(crate) rec: DeviceRec,
@@ -112,7 +118,8 @@ impl Device {
         self.tables.site_types.get(Key::of_name(name.get()))
     }
 
-    /// The tile wire of these names: its tile, and its place in the tile's type; none exactly where there is none.
+    /// The tile wire of these names: its tile, and its place in the tile's type; none exactly where
+    /// there is none.
     pub fn tile_wire(&self, tile: NameId, wire: NameId) -> Option<(TileId, u32)>
         ensures { result ≡ tile_wire_named self.now tile wire }
     {
@@ -134,18 +141,20 @@ impl Device {
         wire_in_tile(&self.rec, &self.tables.wires, tile, name)
     }
 
-    /// The place, in the type of the site's tile, of the tile wire that the site's pin is on; none exactly where there is
-    /// none. In a valid device each pin of the site's type is on one.
+    /// The place, in the type of the site's tile, of the tile wire that the site's pin is on; none
+    /// exactly where there is none. In a valid device each pin of the site's type is on one.
     pub fn wire_of_site_pin(&self, site: SiteId, pin: SitePinId) -> Option<u32>
         requires { site < length (sites_of self.now) }
         ensures wire { result ≡ wire_of_site_pin_seen self.now site pin }
-        ensures inside { IfSome result (λ w. IfSome (tile_of_site self.now site) (λ tile. IsInTile self.now tile w)) }
+        ensures inside { IfSome result (λ w. IfSome (tile_of_site self.now site) (λ tile.
+            IsInTile self.now tile w)) }
     {
         let entry = self.entry(site);
         wire_of_pin(&self.rec, &self.tables.wires, entry.tile, entry.place, pin)
     }
 
-    /// How many sites there are. Their numbers are those below it, by tile and by place in the tile.
+    /// How many sites there are. Their numbers are those below it, by tile and by place in the
+    /// tile.
     pub fn sites(&self) -> u32
         ensures { result ≡ length (sites_of self.now) }
     {
@@ -190,7 +199,8 @@ impl Device {
     pub fn bel(&self, t: SiteTypeId, name: NameId) -> Option<BelId>
         requires { t < length self.now.site_type_list }
         ensures bel { result ≡ in_type (bel_in name) self.now t }
-        ensures inside { IfSome result (λ b. IfSome (slice_get self.now.site_type_list t) (λ ty. b < length ty.bels)) }
+        ensures inside { IfSome result (λ b. IfSome (slice_get self.now.site_type_list t) (λ ty.
+            b < length ty.bels)) }
     {
         let (_, tables) = self.parts(t);
         tables.bels.get(Key::of_name(name.get()))
@@ -200,7 +210,8 @@ impl Device {
     pub fn bel_pin(&self, t: SiteTypeId, bel: BelId, name: NameId) -> Option<BelPinId>
         requires { t < length self.now.site_type_list }
         ensures pin { result ≡ in_type (bel_pin_in bel name) self.now t }
-        ensures inside { IfSome result (λ p. IfSome (slice_get self.now.site_type_list t) (λ ty. p < length ty.bel_pins)) }
+        ensures inside { IfSome result (λ p. IfSome (slice_get self.now.site_type_list t) (λ ty.
+            p < length ty.bel_pins)) }
     {
         let (ty, tables) = self.parts(t);
         match ty.bels.as_slice().get(bel.get() as usize) {
@@ -212,20 +223,23 @@ impl Device {
     /// The site wire that a BEL pin of a site type is on; none exactly where it is on none.
     pub fn wire_of(&self, t: SiteTypeId, pin: BelPinId) -> Option<SiteWireId>
         requires ty { t < length self.now.site_type_list }
-        requires pin { IfSome (slice_get self.now.site_type_list t) (λ ty. pin < length ty.bel_pins) }
+        requires pin { IfSome (slice_get self.now.site_type_list t) (λ ty.
+            pin < length ty.bel_pins) }
         ensures { result ≡ in_type (wire_in pin) self.now t }
     {
         let (_, tables) = self.parts(t);
         tables.wires.get(pin.get() as usize)
     }
 
-    /// The BEL pin to which the first site PIP from a BEL pin of a site type leads; none exactly where there is no site PIP
-    /// from it, a BEL inverts there, or the pin's BEL isn't for routing.
+    /// The BEL pin to which the first site PIP from a BEL pin of a site type leads; none exactly
+    /// where there is no site PIP from it, a BEL inverts there, or the pin's BEL isn't for routing.
     pub fn site_pip(&self, t: SiteTypeId, pin: BelPinId) -> Option<BelPinId>
         requires ty { t < length self.now.site_type_list }
-        requires pin { IfSome (slice_get self.now.site_type_list t) (λ ty. pin < length ty.bel_pins) }
+        requires pin { IfSome (slice_get self.now.site_type_list t) (λ ty.
+            pin < length ty.bel_pins) }
         ensures pip { result ≡ in_type (site_pip_from pin) self.now t }
-        ensures inside { IfSome result (λ p. IfSome (slice_get self.now.site_type_list t) (λ ty. p < length ty.bel_pins)) }
+        ensures inside { IfSome result (λ p. IfSome (slice_get self.now.site_type_list t) (λ ty.
+            p < length ty.bel_pins)) }
     {
         let (_, tables) = self.parts(t);
         tables.site_pips.get(pin.get() as usize)
@@ -235,13 +249,15 @@ impl Device {
     pub fn site_pin(&self, t: SiteTypeId, name: NameId) -> Option<SitePinId>
         requires { t < length self.now.site_type_list }
         ensures pin { result ≡ in_type (site_pin_in name) self.now t }
-        ensures inside { IfSome result (λ p. IfSome (slice_get self.now.site_type_list t) (λ ty. p < length ty.pins)) }
+        ensures inside { IfSome result (λ p. IfSome (slice_get self.now.site_type_list t) (λ ty.
+            p < length ty.pins)) }
     {
         let (_, tables) = self.parts(t);
         tables.site_pins.get(Key::of_name(name.get()))
     }
 
-    /// The pins by which a BEL of a site type takes a cell of this type; none exactly where it doesn't admit the type.
+    /// The pins by which a BEL of a site type takes a cell of this type; none exactly where it
+    /// doesn't admit the type.
     pub fn pins_of(&self, cell: NameId, t: SiteTypeId, bel: BelId) -> Option<PinList<'_>>
         requires ty { t < length self.now.site_type_list }
         requires bel { IfSome (slice_get self.now.site_type_list t) (λ ty. bel < length ty.bels) }
@@ -267,7 +283,8 @@ impl Device {
         self.tables.lut_types.get(Key::of_name(cell.get()))
     }
 
-    /// The LUT element of a BEL of a site type, and the BEL's place in it; none exactly where it is in none.
+    /// The LUT element of a BEL of a site type, and the BEL's place in it; none exactly where it is
+    /// in none.
     pub fn element_of(&self, t: SiteTypeId, bel: BelId) -> Option<(u32, u32)>
         requires ty { t < length self.now.site_type_list }
         requires bel { IfSome (slice_get self.now.site_type_list t) (λ ty. bel < length ty.bels) }
@@ -287,9 +304,9 @@ impl Device {
         self.tables.elements.counts.get(ty.name)
     }
 
-    /// The shape of a site type's LUT element; none exactly where there is no element of this number,
-    /// or it isn't usable. Lines are numbered by first appearance among the inputs of the element's
-    /// BELs. The element is found by a hash, and so is each input.
+    /// The shape of a site type's LUT element; none exactly where there is no element of this
+    /// number, or it isn't usable. Lines are numbered by first appearance among the inputs of the
+    /// element's BELs. The element is found by a hash, and so is each input.
     pub fn shape(&self, t: SiteTypeId, element: u32) -> Option<ElementShape>
         requires { t < length self.now.site_type_list }
         ensures shape { option_map shape_seen result
@@ -312,7 +329,8 @@ impl Device {
     /// The constant that a BEL pin of a site type can drive; none exactly where it can drive none.
     pub fn site_source(&self, t: SiteTypeId, pin: BelPinId) -> Option<Constant>
         requires ty { t < length self.now.site_type_list }
-        requires pin { IfSome (slice_get self.now.site_type_list t) (λ ty. pin < length ty.bel_pins) }
+        requires pin { IfSome (slice_get self.now.site_type_list t) (λ ty.
+            pin < length ty.bel_pins) }
         ensures { result ≡ in_type (site_source_in self.now pin) self.now t }
     {
         let (_, tables) = self.parts(t);

@@ -1,6 +1,7 @@
 //! The LUT elements of site types: which BEL is where.
 
-ghost use Rattle.std.specs.Prelude.{◌≡◌, ◌<◌, ◌+◌, ℕ, None, length, take, slice_get, Some, option_map, nat_eq, if◌then◌else◌, IfOk, OnOk};
+ghost use Rattle.std.specs.Prelude.{◌≡◌, ◌<◌, ◌+◌, ℕ, None, length, take, slice_get, Some};
+ghost use Rattle.std.specs.Prelude.{option_map, nat_eq, if◌then◌else◌, IfOk, OnOk};
 ghost use Rattle.std.specs.Option.{option_or};
 ghost use Rattle.std.specs.List.{position};
 ghost use Rattle.ix_rec.specs.declared.device.SiteTypeLutElements.{SiteTypeLutElements as EntrySeen};
@@ -30,14 +31,18 @@ pub(crate) struct ElementPlace {
     pub lut: u32,
 }
 
-// Puts the BELs of an element, by their names and that of their site type. The first of a name counts.
+// Puts the BELs of an element, by their names and that of their site type. The first of a name
+// counts.
 fn put_bels(
     table: &mut FirstByKey<ElementPlace>,
     site: NameId,
     at: ElementPlace,
     bels: &Items<LutBel>,
 ) -> Result<(), Memory>
-    ensures { OnOk result ((ty bel : ℕ) → value_at table.new (key ty 0 bel) ≡ option_or (value_at table.old (key ty 0 bel)) (if nat_eq site ty then option_map (λ j. record at { place = j }) (position (λ b. nat_eq b.name bel) bels.now) else None)) }
+    ensures { OnOk result ((ty bel : ℕ) → value_at table.new (key ty 0 bel)
+        ≡ option_or (value_at table.old (key ty 0 bel)) (if nat_eq site ty
+        then option_map (λ j. record at { place = j }) (position (λ b. nat_eq b.name bel) bels.now)
+        else None)) }
 {
     for j in 0..bels.len() {
         let place = ElementPlace {
@@ -70,9 +75,11 @@ fn put_entry(
     first: u32,
 ) -> Result<(), Memory>
     requires within { i < length entries.now }
-    requires first { (e : EntrySeen) → slice_get entries.now i ≡ Some e → first ≡ length (elements_for e.site (take i entries.now)) }
+    requires first { (e : EntrySeen) → slice_get entries.now i ≡ Some e
+        → first ≡ length (elements_for e.site (take i entries.now)) }
     requires before { ArePlaces entries.now (λ ty. elements_for ty (take i entries.now)) table.old }
-    ensures { OnOk result (ArePlaces entries.now (λ ty. elements_for ty (take (i + 1) entries.now)) table.new) }
+    ensures { OnOk result (ArePlaces entries.now (λ ty. elements_for ty (take (i + 1) entries.now))
+        table.new) }
 {
     let entry = entries.at(i);
     let number = number_of(i)?;
@@ -136,7 +143,9 @@ pub(crate) fn elements_of_bels(
     ty: &SiteType,
     places: &FirstByKey<ElementPlace>,
 ) -> Result<FirstById<(u32, u32)>, Memory>
-    ensures { IfOk result (λ elements. (bel : ℕ) → bel < length ty.now.bels → value_of elements bel ≡ Some (option_map place_told (place_told_of places.now ty.now bel))) }
+    ensures { IfOk result (λ elements. (bel : ℕ) → bel < length ty.now.bels
+        → value_of elements bel ≡ Some (option_map place_told
+        (place_told_of places.now ty.now bel))) }
 {
     let mut elements = FirstById::new(alloc, ty.bels.len())?;
     for bel in 0..ty.bels.len() {

@@ -1,6 +1,7 @@
 //! The lines of a LUT element, as they are found.
 
-ghost use Rattle.std.specs.Prelude.{◌≡◌, ℕ, List, ◌<◌, ◌≤◌, ◌++◌, ◌∷◌, [], Some, length, map, nat_eq, take, IfSome, IfNone};
+ghost use Rattle.std.specs.Prelude.{◌≡◌, ℕ, List, ◌<◌, ◌≤◌, ◌++◌, ◌∷◌, [], Some, length, map};
+ghost use Rattle.std.specs.Prelude.{nat_eq, take, IfSome, IfNone};
 ghost use Rattle.std.specs.List.{position};
 ghost use Rattle.ix_device.specs.Shapes.{line_number, with_line, with_lines};
 

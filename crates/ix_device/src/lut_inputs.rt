@@ -23,7 +23,8 @@ fn inputs_of_bel(
     bel: usize,
 ) -> Result<Option<u32>, Memory>
     requires pins { ArePins pins.now }
-    requires places { ArePlaces rec.now.lut_definitions.lut_elements (λ ty. elements_for ty rec.now.lut_definitions.lut_elements) places.now }
+    requires places { ArePlaces rec.now.lut_definitions.lut_elements (λ ty.
+        elements_for ty rec.now.lut_definitions.lut_elements) places.now }
     requires within { bel < length pins.now.ty.now.bels }
     ensures { IfOk result (λ inputs. inputs ≡ usable_inputs rec.now pins.now.ty.now bel) }
 {
@@ -49,8 +50,10 @@ pub(crate) fn inputs_of_bels(
     places: &FirstByKey<ElementPlace>,
 ) -> Result<FirstById<u32>, Memory>
     requires pins { ArePins pins.now }
-    requires places { ArePlaces rec.now.lut_definitions.lut_elements (λ ty. elements_for ty rec.now.lut_definitions.lut_elements) places.now }
-    ensures { IfOk result (λ inputs. (bel : ℕ) → bel < length pins.now.ty.now.bels → value_of inputs bel ≡ Some (usable_inputs rec.now pins.now.ty.now bel)) }
+    requires places { ArePlaces rec.now.lut_definitions.lut_elements (λ ty.
+        elements_for ty rec.now.lut_definitions.lut_elements) places.now }
+    ensures { IfOk result (λ inputs. (bel : ℕ) → bel < length pins.now.ty.now.bels
+        → value_of inputs bel ≡ Some (usable_inputs rec.now pins.now.ty.now bel)) }
 {
     let mut inputs = FirstById::new(alloc, pins.ty.bels.len())?;
     for bel in 0..pins.ty.bels.len() {

@@ -44,9 +44,11 @@ fn counts_as_lut(alloc: Global, cell: &LutCell) -> Result<bool, Memory>
     names_differ(alloc, &cell.input_pins)
 }
 
-/// The number of inputs of each LUT type, by name. Of several LUT cells of one name the first that counts does.
+/// The number of inputs of each LUT type, by name. Of several LUT cells of one name the first that
+/// counts does.
 pub(crate) fn lut_types(alloc: Global, rec: &DeviceRec) -> Result<FirstByKey<u32>, Memory>
-    ensures { IfOk result (λ table. (cell : ℕ) → value_at table (name_key cell) ≡ lut_inputs_of rec.now cell) }
+    ensures { IfOk result (λ table. (cell : ℕ)
+        → value_at table (name_key cell) ≡ lut_inputs_of rec.now cell) }
 {
     let mut table = FirstByKey::new(alloc);
     for i in 0..rec.lut_definitions.lut_cells.len() {

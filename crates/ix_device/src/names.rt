@@ -16,7 +16,8 @@ use std::alloc::Global;
 
 /// The tiles by name.
 pub(crate) fn tile_numbers(alloc: Global, rec: &DeviceRec) -> Result<FirstByKey<TileId>, Memory>
-    ensures { IfOk result (λ table. (name : ℕ) → value_at table (name_key name) ≡ tile_named rec.now name) }
+    ensures { IfOk result (λ table. (name : ℕ)
+        → value_at table (name_key name) ≡ tile_named rec.now name) }
 {
     let mut table = FirstByKey::new(alloc);
     for i in 0..rec.tile_list.len() {
@@ -31,7 +32,8 @@ pub(crate) fn site_type_numbers(
     alloc: Global,
     rec: &DeviceRec,
 ) -> Result<FirstByKey<SiteTypeId>, Memory>
-    ensures { IfOk result (λ table. (name : ℕ) → value_at table (name_key name) ≡ site_type_number rec.now name) }
+    ensures { IfOk result (λ table. (name : ℕ)
+        → value_at table (name_key name) ≡ site_type_number rec.now name) }
 {
     let mut table = FirstByKey::new(alloc);
     for i in 0..rec.site_type_list.len() {
@@ -46,7 +48,8 @@ pub(crate) fn site_numbers(
     alloc: Global,
     entries: &Items<SiteEntry>,
 ) -> Result<FirstByKey<SiteId>, Memory>
-    ensures { IfOk result (λ table. (name : ℕ) → value_at table (name_key name) ≡ position (λ e. nat_eq e.name name) entries.now) }
+    ensures { IfOk result (λ table. (name : ℕ)
+        → value_at table (name_key name) ≡ position (λ e. nat_eq e.name name) entries.now) }
 {
     let mut table = FirstByKey::new(alloc);
     for i in 0..entries.len() {

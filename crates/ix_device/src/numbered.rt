@@ -1,6 +1,7 @@
 //! The LUT elements of site types, by number.
 
-ghost use Rattle.std.specs.Prelude.{◌≡◌, ◌<◌, ◌+◌, Some, length, option_map, slice_get, take, IfOk, OnOk};
+ghost use Rattle.std.specs.Prelude.{◌≡◌, ◌<◌, ◌+◌, Some, length, option_map, slice_get, take, IfOk};
+ghost use Rattle.std.specs.Prelude.{OnOk};
 ghost use Rattle.ix_rec.specs.declared.device.SiteTypeLutElements.{SiteTypeLutElements as EntrySeen};
 ghost use Rattle.ix_device_rules.specs.Rules.{elements_for};
 ghost use Rattle.ix_device.specs.Numbered.{HasElements, AreNumbered};
@@ -41,7 +42,8 @@ fn put_entry(
     requires within { i < length entries.now }
     requires first { (e : EntrySeen) → slice_get entries.now i ≡ Some e →
         first ≡ length (elements_for e.site (take i entries.now)) }
-    requires before { HasElements entries.now (λ ty. elements_for ty (take i entries.now)) table.old }
+    requires before { HasElements entries.now (λ ty. elements_for ty (take i entries.now))
+        table.old }
     ensures { OnOk result
         (HasElements entries.now (λ ty. elements_for ty (take (i + 1) entries.now)) table.new) }
 {

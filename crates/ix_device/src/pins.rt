@@ -8,8 +8,8 @@ use ix_keys::Key;
 use ix_num::{BelPinId, NameId};
 use ix_rec::{CellBelPinEntry, Items};
 
-/// The pins of a cell type on a BEL that admits it: each cell pin with its BEL pin, in the order of the device's pin
-/// map. In contracts it is the list of them.
+/// The pins of a cell type on a BEL that admits it: each cell pin with its BEL pin, in the order of
+/// the device's pin map. In contracts it is the list of them.
 #[derive(Clone, Copy)]
 pub struct PinList<'a> {
     pub(crate) pins: &'a Items<CellBelPinEntry>,

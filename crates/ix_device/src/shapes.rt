@@ -1,6 +1,7 @@
 //! The shapes of LUT elements.
 
-ghost use Rattle.std.specs.Prelude.{◌≡◌, ◌≤◌, ℕ, List, ◌++◌, true, false, length, nat_eq, option_map, take, IfSome, IfNone, ◌⊎◌, ◌<◌};
+ghost use Rattle.std.specs.Prelude.{◌≡◌, ◌≤◌, ℕ, List, ◌++◌, true, false, length, nat_eq};
+ghost use Rattle.std.specs.Prelude.{option_map, take, IfSome, IfNone, ◌⊎◌, ◌<◌};
 ghost use Rattle.std.specs.List.{list_any};
 ghost use Rattle.ix_lut.specs.Shapes.{IsUsable, IsUsableBel};
 ghost use Rattle.ix_device.specs.Elements.{has_own_lines, input_lines, present};

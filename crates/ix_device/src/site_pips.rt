@@ -5,7 +5,11 @@ ghost use Rattle.std.specs.List.{list_any};
 ghost use Rattle.ix_keys.specs.Keys.{name_key};
 ghost use Rattle.ix_first.specs.First.{value_at, value_of, or_later};
 ghost use Rattle.ix_device.specs.Lookups.{bel_in};
-ghost use Rattle.ix_device.specs.SitePips.{is_inverted_at, inverts_at, is_for_routing as is_for_routing_seen, is_routing_bel as is_routing_bel_seen, is_usable_from as is_usable_from_seen, first_from, site_pip_from as site_pip_from_seen};
+ghost use Rattle.ix_device.specs.SitePips.{is_inverted_at, inverts_at};
+ghost use Rattle.ix_device.specs.SitePips.{is_for_routing as is_for_routing_seen};
+ghost use Rattle.ix_device.specs.SitePips.{is_routing_bel as is_routing_bel_seen};
+ghost use Rattle.ix_device.specs.SitePips.{is_usable_from as is_usable_from_seen, first_from};
+ghost use Rattle.ix_device.specs.SitePips.{site_pip_from as site_pip_from_seen};
 
 use crate::filling::put_found;
 use ix_first::{FirstById, FirstByKey};
@@ -16,7 +20,8 @@ use std::alloc::Global;
 
 // Marks the pin at which a signal is inverted.
 fn mark(marks: &mut FirstById<()>, inversion: Inversion)
-    ensures { (pin : ℕ) → value_of marks.new pin ≡ option_map (λ v. or_later v (is_inverted_at pin inversion) tt) (value_of marks.old pin) }
+    ensures { (pin : ℕ) → value_of marks.new pin
+        ≡ option_map (λ v. or_later v (is_inverted_at pin inversion) tt) (value_of marks.old pin) }
 {
     if let Inversion::Inverting { inverting_pin, .. } = inversion {
         marks.put(inverting_pin.get() as usize, ());
@@ -25,7 +30,8 @@ fn mark(marks: &mut FirstById<()>, inversion: Inversion)
 
 // The pins at which a BEL inverts.
 fn inverting_pins(alloc: Global, ty: &SiteType) -> Result<FirstById<()>, Memory>
-    ensures { IfOk result (λ marks. (pin : ℕ) → pin < length ty.now.bel_pins → value_of marks pin ≡ Some (or_later None (list_any (inverts_at pin) ty.now.bels) tt)) }
+    ensures { IfOk result (λ marks. (pin : ℕ) → pin < length ty.now.bel_pins
+        → value_of marks pin ≡ Some (or_later None (list_any (inverts_at pin) ty.now.bels) tt)) }
 {
     let mut marks = FirstById::new(alloc, ty.bel_pins.len())?;
     for i in 0..ty.bels.len() {
@@ -36,7 +42,8 @@ fn inverting_pins(alloc: Global, ty: &SiteType) -> Result<FirstById<()>, Memory>
 
 // Where the first site PIP from each pin leads.
 fn first_pips(alloc: Global, ty: &SiteType) -> Result<FirstById<BelPinId>, Memory>
-    ensures { IfOk result (λ first. (pin : ℕ) → pin < length ty.now.bel_pins → value_of first pin ≡ Some (first_from pin ty.now.site_pips)) }
+    ensures { IfOk result (λ first. (pin : ℕ) → pin < length ty.now.bel_pins
+        → value_of first pin ≡ Some (first_from pin ty.now.site_pips)) }
 {
     let mut first = FirstById::new(alloc, ty.bel_pins.len())?;
     for i in 0..ty.site_pips.len() {
@@ -76,7 +83,8 @@ fn site_pip_from(
 ) -> Option<BelPinId>
     requires within { pin < length ty.now.bel_pins }
     requires bels { (name : ℕ) → value_at bels.now (name_key name) ≡ bel_in name ty.now }
-    requires marks { value_of marks.now pin ≡ Some (or_later None (list_any (inverts_at pin) ty.now.bels) tt) }
+    requires marks { value_of marks.now pin
+        ≡ Some (or_later None (list_any (inverts_at pin) ty.now.bels) tt) }
     requires first { value_of first.now pin ≡ Some (first_from pin ty.now.site_pips) }
     ensures { result ≡ site_pip_from_seen pin ty.now }
 {
@@ -93,7 +101,8 @@ pub(crate) fn site_pips_from_pins(
     bels: &FirstByKey<BelId>,
 ) -> Result<FirstById<BelPinId>, Memory>
     requires { (name : ℕ) → value_at bels.now (name_key name) ≡ bel_in name ty.now }
-    ensures { IfOk result (λ pips. (pin : ℕ) → pin < length ty.now.bel_pins → value_of pips pin ≡ Some (site_pip_from_seen pin ty.now)) }
+    ensures { IfOk result (λ pips. (pin : ℕ) → pin < length ty.now.bel_pins
+        → value_of pips pin ≡ Some (site_pip_from_seen pin ty.now)) }
 {
     let marks = inverting_pins(alloc, ty)?;
     let first = first_pips(alloc, ty)?;

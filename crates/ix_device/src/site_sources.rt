@@ -7,7 +7,8 @@ ghost use Rattle.ix_keys.specs.Keys.{key};
 ghost use Rattle.ix_first.specs.First.{value_at, value_of};
 ghost use Rattle.ix_device.specs.Lookups.{pin_of_bel};
 ghost use Rattle.ix_device.specs.Sources.{constant_of as constant_seen, if_named};
-ghost use Rattle.ix_device.specs.NamedSources.{is_under, first_that, named_source, source_of_pin as source_told};
+ghost use Rattle.ix_device.specs.NamedSources.{is_under, first_that, named_source};
+ghost use Rattle.ix_device.specs.NamedSources.{source_of_pin as source_told};
 
 use crate::filling::put_found;
 use ix_first::{FirstById, FirstByKey};
@@ -29,7 +30,9 @@ fn constant_of(preference: ConstantPreference) -> Option<Constant>
 
 // Puts an entry's constant under its names.
 fn put_source(table: &mut FirstByKey<Constant>, entry: &SiteConstantSource) -> Result<(), Memory>
-    ensures { OnOk result ((q : KeySeen) → value_at table.new q ≡ option_or (value_at table.old q) (if_named (is_under q entry.now) (constant_seen entry.now.constant) None)) }
+    ensures { OnOk result ((q : KeySeen) → value_at table.new q
+        ≡ option_or (value_at table.old q) (if_named (is_under q entry.now)
+        (constant_seen entry.now.constant) None)) }
 {
     if let Some(constant) = constant_of(entry.constant) {
         let key = Key::new(entry.site_type.get(), entry.bel.get(), entry.bel_pin.get());
@@ -43,7 +46,8 @@ fn put_sources(
     table: &mut FirstByKey<Constant>,
     entries: &Items<SiteConstantSource>,
 ) -> Result<(), Memory>
-    ensures { OnOk result ((q : KeySeen) → value_at table.new q ≡ option_or (value_at table.old q) (first_that (is_under q) entries.now)) }
+    ensures { OnOk result ((q : KeySeen) → value_at table.new q
+        ≡ option_or (value_at table.old q) (first_that (is_under q) entries.now)) }
 {
     for i in 0..entries.len() {
         put_source(table, entries.at(i))?;
@@ -70,7 +74,8 @@ fn source_of_pin(
     pin: usize,
 ) -> Option<Constant>
     requires within { pin < length ty.now.bel_pins }
-    requires numbers { (bel name : ℕ) → value_at numbers.now (key 0 bel name) ≡ pin_of_bel bel name ty.now }
+    requires numbers { (bel name : ℕ) → value_at numbers.now (key 0 bel name)
+        ≡ pin_of_bel bel name ty.now }
     ensures { result ≡ source_told table.now ty.now pin }
 {
     let named = ty.bel_pins.at(pin);
@@ -90,7 +95,8 @@ pub(crate) fn sources_of_pins(
     table: &FirstByKey<Constant>,
 ) -> Result<FirstById<Constant>, Memory>
     requires { (bel name : ℕ) → value_at numbers.now (key 0 bel name) ≡ pin_of_bel bel name ty.now }
-    ensures { IfOk result (λ sources. (pin : ℕ) → pin < length ty.now.bel_pins → value_of sources pin ≡ Some (source_told table.now ty.now pin)) }
+    ensures { IfOk result (λ sources. (pin : ℕ) → pin < length ty.now.bel_pins
+        → value_of sources pin ≡ Some (source_told table.now ty.now pin)) }
 {
     let mut sources = FirstById::new(alloc, ty.bel_pins.len())?;
     for pin in 0..ty.bel_pins.len() {

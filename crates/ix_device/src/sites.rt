@@ -35,7 +35,8 @@ fn add_sites(
     sites: &Items<Site>,
 ) -> Result<(), Memory>
     requires { AllByRecursion (λ s. s.ty < length ty.now.site_types) sites.now }
-    ensures { OnOk result (map entry_told entries.new ≡ map entry_told entries.old ++ map (told_in tile ty.now) sites.now) }
+    ensures { OnOk result (map entry_told entries.new
+        ≡ map entry_told entries.old ++ map (told_in tile ty.now) sites.now) }
 {
     for i in 0..sites.len() {
         let site = sites.at(i);

@@ -1,11 +1,14 @@
 //! The wires of tile types, by name.
 
-ghost use Rattle.std.specs.Prelude.{◌≡◌, ◌&&◌, ℕ, Some, nat_eq, option_and_then, position, slice_get, IfOk, OnOk};
+ghost use Rattle.std.specs.Prelude.{◌≡◌, ◌&&◌, ℕ, Some, nat_eq, option_and_then, position};
+ghost use Rattle.std.specs.Prelude.{slice_get, IfOk, OnOk};
 ghost use Rattle.ix_keys.specs.declared.key.Key.{Key as KeySeen};
 ghost use Rattle.ix_keys.specs.Keys.{key, name_key};
 ghost use Rattle.ix_first.specs.First.{value_at, or_found};
 ghost use Rattle.ix_rec.specs.declared.device.TileType.{TileType as TypeSeen};
-ghost use Rattle.ix_device.specs.Lookups.{wire_of_type, wire_of_pin as wire_of_pin_seen, wire_in_tile as wire_in_tile_seen, type_of_tile, tile_named, tile_wire_named};
+ghost use Rattle.ix_device.specs.Lookups.{wire_of_type, wire_of_pin as wire_of_pin_seen};
+ghost use Rattle.ix_device.specs.Lookups.{wire_in_tile as wire_in_tile_seen, type_of_tile};
+ghost use Rattle.ix_device.specs.Lookups.{tile_named, tile_wire_named};
 ghost use Rattle.ix_device.specs.TileWires.{of_type};
 
 use ix_first::{FirstByKey, number_of};
@@ -16,7 +19,8 @@ use std::alloc::Global;
 
 // Puts the places of a tile type's wires.
 fn put_wires(table: &mut FirstByKey<u32>, owner: u32, wires: &Items<NameId>) -> Result<(), Memory>
-    ensures { OnOk result ((q : KeySeen) → value_at table.new q ≡ or_found (value_at table.old q) (of_type owner q) (position (nat_eq q.name) wires.now)) }
+    ensures { OnOk result ((q : KeySeen) → value_at table.new q
+        ≡ or_found (value_at table.old q) (of_type owner q) (position (nat_eq q.name) wires.now)) }
 {
     for i in 0..wires.len() {
         let place = number_of(i)?;
@@ -27,7 +31,8 @@ fn put_wires(table: &mut FirstByKey<u32>, owner: u32, wires: &Items<NameId>) -> 
 
 /// The place of each wire in its tile type, under the tile type's number and the wire's name.
 pub(crate) fn tile_wires(alloc: Global, types: &Items<TileType>) -> Result<FirstByKey<u32>, Memory>
-    ensures { IfOk result (λ table. (k : ℕ) (ty : TypeSeen) → slice_get types.now k ≡ Some ty → (name : ℕ) → value_at table (key k 0 name) ≡ wire_of_type name ty) }
+    ensures { IfOk result (λ table. (k : ℕ) (ty : TypeSeen) → slice_get types.now k ≡ Some ty
+        → (name : ℕ) → value_at table (key k 0 name) ≡ wire_of_type name ty) }
 {
     let mut table = FirstByKey::new(alloc);
     for i in 0..types.len() {
@@ -43,7 +48,8 @@ pub(crate) fn wire_in_tile(
     tile: TileId,
     name: NameId,
 ) -> Option<u32>
-    requires { (k : ℕ) (ty : TypeSeen) → slice_get rec.now.tile_type_list k ≡ Some ty → (name : ℕ) → value_at wires.now (key k 0 name) ≡ wire_of_type name ty }
+    requires { (k : ℕ) (ty : TypeSeen) → slice_get rec.now.tile_type_list k ≡ Some ty → (name : ℕ)
+        → value_at wires.now (key k 0 name) ≡ wire_of_type name ty }
     ensures { result ≡ wire_in_tile_seen rec.now tile name }
 {
     let ty = rec.tile_list.as_slice().get(tile.get() as usize)?.ty;
@@ -51,7 +57,8 @@ pub(crate) fn wire_in_tile(
     wires.get(Key::new(ty, 0, name.get()))
 }
 
-/// The place, in the type of a tile, of the wire that a pin of the tile's sites at this place of its type is on.
+/// The place, in the type of a tile, of the wire that a pin of the tile's sites at this place of
+/// its type is on.
 pub(crate) fn wire_of_pin(
     rec: &DeviceRec,
     wires: &FirstByKey<u32>,
@@ -59,7 +66,8 @@ pub(crate) fn wire_of_pin(
     place: u32,
     pin: SitePinId,
 ) -> Option<u32>
-    requires { (k : ℕ) (ty : TypeSeen) → slice_get rec.now.tile_type_list k ≡ Some ty → (name : ℕ) → value_at wires.now (key k 0 name) ≡ wire_of_type name ty }
+    requires { (k : ℕ) (ty : TypeSeen) → slice_get rec.now.tile_type_list k ≡ Some ty → (name : ℕ)
+        → value_at wires.now (key k 0 name) ≡ wire_of_type name ty }
     ensures { result ≡ option_and_then (wire_of_pin_seen place pin) (type_of_tile rec.now tile) }
 {
     let number = rec.tile_list.as_slice().get(tile.get() as usize)?.ty;
@@ -79,7 +87,8 @@ pub(crate) fn tile_wire(
     wire: NameId,
 ) -> Option<(TileId, u32)>
     requires tiles { (name : ℕ) → value_at tiles.now (name_key name) ≡ tile_named rec.now name }
-    requires wires { (k : ℕ) (ty : TypeSeen) → slice_get rec.now.tile_type_list k ≡ Some ty → (name : ℕ) → value_at wires.now (key k 0 name) ≡ wire_of_type name ty }
+    requires wires { (k : ℕ) (ty : TypeSeen) → slice_get rec.now.tile_type_list k ≡ Some ty
+        → (name : ℕ) → value_at wires.now (key k 0 name) ≡ wire_of_type name ty }
     ensures { result ≡ tile_wire_named rec.now tile wire }
 {
     let tile = tiles.get(Key::of_name(tile.get()))?;

@@ -45,7 +45,8 @@ pub(crate) struct TypeTables {
 
 // The BELs by name.
 fn bel_numbers(alloc: Global, ty: &SiteType) -> Result<FirstByKey<BelId>, Memory>
-    ensures { IfOk result (λ table. (name : ℕ) → value_at table (name_key name) ≡ bel_in name ty.now) }
+    ensures { IfOk result (λ table. (name : ℕ)
+        → value_at table (name_key name) ≡ bel_in name ty.now) }
 {
     let mut table = FirstByKey::new(alloc);
     for i in 0..ty.bels.len() {
@@ -57,7 +58,8 @@ fn bel_numbers(alloc: Global, ty: &SiteType) -> Result<FirstByKey<BelId>, Memory
 
 // The BEL pins by the names of their BELs and their own.
 fn bel_pin_numbers(alloc: Global, ty: &SiteType) -> Result<FirstByKey<BelPinId>, Memory>
-    ensures { IfOk result (λ table. (bel name : ℕ) → value_at table (key 0 bel name) ≡ pin_of_bel bel name ty.now) }
+    ensures { IfOk result (λ table. (bel name : ℕ)
+        → value_at table (key 0 bel name) ≡ pin_of_bel bel name ty.now) }
 {
     let mut table = FirstByKey::new(alloc);
     for i in 0..ty.bel_pins.len() {
@@ -70,7 +72,8 @@ fn bel_pin_numbers(alloc: Global, ty: &SiteType) -> Result<FirstByKey<BelPinId>,
 
 // The site pins by name.
 fn site_pin_numbers(alloc: Global, ty: &SiteType) -> Result<FirstByKey<SitePinId>, Memory>
-    ensures { IfOk result (λ table. (name : ℕ) → value_at table (name_key name) ≡ site_pin_in name ty.now) }
+    ensures { IfOk result (λ table. (name : ℕ)
+        → value_at table (name_key name) ≡ site_pin_in name ty.now) }
 {
     let mut table = FirstByKey::new(alloc);
     for i in 0..ty.pins.len() {
@@ -82,7 +85,9 @@ fn site_pin_numbers(alloc: Global, ty: &SiteType) -> Result<FirstByKey<SitePinId
 
 // Puts a site wire under each of its pins.
 fn put_wire(table: &mut FirstById<SiteWireId>, wire: SiteWireId, pins: &Items<BelPinId>)
-    ensures { (pin : ℕ) → value_of table.new pin ≡ option_map (λ v. or_later v (list_any (nat_eq pin) pins.now) wire) (value_of table.old pin) }
+    ensures { (pin : ℕ) → value_of table.new pin
+        ≡ option_map (λ v. or_later v (list_any (nat_eq pin) pins.now) wire)
+        (value_of table.old pin) }
 {
     for i in 0..pins.len() {
         table.put(pins.at(i).get() as usize, wire);
@@ -91,7 +96,8 @@ fn put_wire(table: &mut FirstById<SiteWireId>, wire: SiteWireId, pins: &Items<Be
 
 // The site wire of each BEL pin.
 fn wires_of_pins(alloc: Global, ty: &SiteType) -> Result<FirstById<SiteWireId>, Memory>
-    ensures { IfOk result (λ table. (pin : ℕ) → pin < length ty.now.bel_pins → value_of table pin ≡ Some (wire_in pin ty.now)) }
+    ensures { IfOk result (λ table. (pin : ℕ) → pin < length ty.now.bel_pins
+        → value_of table pin ≡ Some (wire_in pin ty.now)) }
 {
     let mut table = FirstById::new(alloc, ty.bel_pins.len())?;
     for i in 0..ty.site_wires.len() {
@@ -109,7 +115,8 @@ fn type_tables(
     places: &FirstByKey<ElementPlace>,
     sources: &FirstByKey<Constant>,
 ) -> Result<TypeTables, Memory>
-    requires places { ArePlaces rec.now.lut_definitions.lut_elements (λ ty. elements_for ty rec.now.lut_definitions.lut_elements) places.now }
+    requires places { ArePlaces rec.now.lut_definitions.lut_elements (λ ty.
+        elements_for ty rec.now.lut_definitions.lut_elements) places.now }
     requires sources { (q : KeySeen) → value_at sources.now q ≡ named_source rec.now q }
     ensures { IfOk result (AreTypeTables rec.now ty.now) }
 {

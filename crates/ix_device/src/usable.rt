@@ -45,7 +45,8 @@ fn has_line(lines: &Items<SiteWireId>, line: SiteWireId) -> bool
     lines.as_slice().iter().any(|l| line == *l)
 }
 
-// The lines of a LUT BEL's inputs, where each is on a line of its own and they aren't more than an element may have.
+// The lines of a LUT BEL's inputs, where each is on a line of its own and they aren't more than an
+// element may have.
 fn own_lines(
     alloc: Global,
     pins: &Pins<'_>,
@@ -92,8 +93,8 @@ fn add_lines(all: &mut Items<SiteWireId>, lines: &Items<SiteWireId>) -> Result<(
     Ok(())
 }
 
-/// Whether an element is usable: it has few BELs and few lines, and each BEL has lines of its own for its inputs. No more
-/// is read of it than what decides this.
+/// Whether an element is usable: it has few BELs and few lines, and each BEL has lines of its own
+/// for its inputs. No more is read of it than what decides this.
 pub(crate) fn is_usable(
     alloc: Global,
     pins: &Pins<'_>,

@@ -9,7 +9,8 @@ use Rattle.ix_device_read.specs.Views.{kind_word, field_word}
 -- The fault is that this field of the struct with this number and index is out of its list. Want of
 -- memory may be told at any time.
 abbrev pub IsFieldAt : ℕ → ℕ → ℕ → Place → Type 0
-IsFieldAt kind field index (Item k f i) = (k ≡ kind_word kind) × (f ≡ field_word kind field) × (i ≡ index)
+IsFieldAt kind field index (Item k f i) = (k ≡ kind_word kind) × (f ≡ field_word kind field)
+    × (i ≡ index)
 IsFieldAt kind field index _ = ⊥
 
 abbrev pub TellsField : ℕ → ℕ → ℕ → ReadFault → Type 0

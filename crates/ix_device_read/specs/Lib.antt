@@ -1,5 +1,5 @@
+-- What public contracts say.
 pub mod Adding
-pub mod Faults
 pub mod Finish
 pub mod Finishing
 pub mod Long
@@ -10,4 +10,6 @@ pub mod Premises
 pub mod Reading
 pub mod Records
 pub mod Sizes
+-- For private contracts and proofs.
+pub mod Faults
 pub mod Views

@@ -1,9 +1,12 @@
--- The texts of a message that stand behind pointers of their own and not in its string table, and what it is to add texts
--- to the names of a run.
-use Rattle.std.specs.Prelude.{◌≡◌, ℕ, ◌+◌, ◌-◌, ◌^◌, ◌<◌, ◌≤◌, List, [], ◌∷◌, ◌++◌, length, Some, Result, Ok, Err, slice_get}
+-- The texts of a message that stand behind pointers of their own and not in its string table, and
+-- what it is to add texts to the names of a run.
+use Rattle.std.specs.Prelude.{◌≡◌, ℕ, ◌+◌, ◌-◌, ◌^◌, ◌<◌, ◌≤◌, List, [], ◌∷◌, ◌++◌, length, Some}
+use Rattle.std.specs.Prelude.{Result, Ok, Err, slice_get}
 use Rattle.std.specs.List.{AllByRecursion, flat_map, sum_by}
 use Rattle.ix_strings.specs.Names.{with_name, KeepsNumbers}
-use Rattle.ix_message.specs.Shape.{Text, Struct, Pointers, Value, Parts, struct_of, no_more, text, texts, numbers, struct, struct_or_none, boxed, structs, branches, string_table, unread}
+use Rattle.ix_message.specs.Shape.{Text, Struct, Pointers, Value, Parts, struct_of, no_more, text}
+use Rattle.ix_message.specs.Shape.{texts, numbers, struct, struct_or_none, boxed, structs, branches}
+use Rattle.ix_message.specs.Shape.{string_table, unread}
 use Rattle.ix_message.specs.Names.{option_uses}
 use Rattle.ix_device_read.specs.Premises.{IsKnown}
 
@@ -25,7 +28,8 @@ unfoldable mutual
   loose_parts (string_table c ps) v = loose_parts ps v
   loose_parts (unread c ps) v = loose_parts ps v
 
--- An empty text may stand in a file for nothing, behind a pointer that is zero; each other text takes a word of it.
+-- An empty text may stand in a file for nothing, behind a pointer that is zero; each other text
+-- takes a word of it.
 abbrev pub paid_text : Text → ℕ
 paid_text [] = 0
 paid_text (b ∷ bs) = 1
@@ -47,7 +51,8 @@ pub record Grows (ts old new : List Text) : Type 0 where
   pub keeps : KeepsNumbers old new
   pub most : reach new ≤ reach old + paid_texts ts
 
--- the names once these texts were added, one after the other; a text that is one of the names already changes nothing
+-- the names once these texts were added, one after the other; a text that is one of the names
+-- already changes nothing
 abbrev pub with_names : List Text → List Text → List Text
 with_names names [] = names
 with_names names (t ∷ ts) = with_names (with_name names t) ts

@@ -1,16 +1,19 @@
--- What is known of a message once it was read and its texts are names: each text behind a pointer is one of the names,
--- and how many structs there are.
+-- What is known of a message once it was read and its texts are names: each text behind a pointer
+-- is one of the names, and how many structs there are.
 use Rattle.std.specs.Prelude.{ℕ, ◌+◌, List, Option, Some, None, IsSome}
 use Rattle.std.specs.List.{AllByRecursion, sum_by}
 use Rattle.ix_message.specs.Records.{IfThere}
-use Rattle.ix_message.specs.Shape.{Text, Struct, Pointers, Branches, Value, Parts, struct_of, no_more, text, texts, numbers, struct, struct_or_none, boxed, structs, branches, string_table, unread, ends, branch}
+use Rattle.ix_message.specs.Shape.{Text, Struct, Pointers, Branches, Value, Parts, struct_of}
+use Rattle.ix_message.specs.Shape.{no_more, text, texts, numbers, struct, struct_or_none, boxed}
+use Rattle.ix_message.specs.Shape.{structs, branches, string_table, unread, ends, branch}
 use Rattle.ix_strings.specs.Names.{number_of}
 
 -- the text is one of the names
 abbrev pub IsKnown : List Text → Text → Type 0
 IsKnown names t = IsSome (number_of names t)
 
--- each text behind a pointer of the struct, and of the structs behind its pointers, is one of the names
+-- each text behind a pointer of the struct, and of the structs behind its pointers, is one of the
+-- names
 unfoldable mutual
   pub TextsKnown : List Text → (s : Struct) → Value ℕ s → Type 0
   TextsKnown names (struct_of called fields ps) v = PartsKnown names ps v.1
@@ -18,12 +21,16 @@ unfoldable mutual
   pub PartsKnown : List Text → (ps : Pointers) → Parts ℕ ps → Type 0
   PartsKnown names no_more v = Unit {0}
   PartsKnown names (text called ps) v = IsKnown names v.0 × PartsKnown names ps v.1
-  PartsKnown names (texts called ps) v = AllByRecursion (IsKnown names) v.0 × PartsKnown names ps v.1
+  PartsKnown names (texts called ps) v = AllByRecursion (IsKnown names) v.0
+      × PartsKnown names ps v.1
   PartsKnown names (numbers called target kind ps) v = PartsKnown names ps v.1
   PartsKnown names (struct called s ps) v = TextsKnown names s v.0 × PartsKnown names ps v.1
-  PartsKnown names (struct_or_none called s ps) v = IfThere (TextsKnown names s) v.0 × PartsKnown names ps v.1
-  PartsKnown names (boxed called kind inner s ps) v = AllByRecursion (TextsKnown names s) v.0 × PartsKnown names ps v.1
-  PartsKnown names (structs called target s ps) v = AllByRecursion (TextsKnown names s) v.0 × PartsKnown names ps v.1
+  PartsKnown names (struct_or_none called s ps) v = IfThere (TextsKnown names s) v.0
+      × PartsKnown names ps v.1
+  PartsKnown names (boxed called kind inner s ps) v = AllByRecursion (TextsKnown names s) v.0
+      × PartsKnown names ps v.1
+  PartsKnown names (structs called target s ps) v = AllByRecursion (TextsKnown names s) v.0
+      × PartsKnown names ps v.1
   PartsKnown names (branches called kind fields ps) v = PartsKnown names ps v.1
   PartsKnown names (string_table called ps) v = PartsKnown names ps v
   PartsKnown names (unread called ps) v = PartsKnown names ps v

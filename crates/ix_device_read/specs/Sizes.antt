@@ -24,8 +24,10 @@ device_sizes table names v = record {
 }
 
 -- the whole device, from the root on
-abbrev pub device_finished : List Text → List Text → Value ℕ device → Result (Value Datum device) Stopped
-device_finished table names v = finish_at device (device_sizes table names v) v (replicate 29 0) >>= λ x. Ok x.0
+abbrev pub device_finished : List Text → List Text → Value ℕ device
+    → Result (Value Datum device) Stopped
+device_finished table names v = finish_at device (device_sizes table names v) v (replicate 29 0)
+    >>= λ x. Ok x.0
 
 -- the record, unless there is a first bad field
 abbrev pub finished_as : {A : Type 0} → Option Item → A → Result A Stopped

@@ -34,14 +34,17 @@ field_word kind field = field_text device_structs kind field
 abbrev pub Stops : {Y : Type 0} → Stop → Result Y Stopped → Type 0
 Stops Memory given = Unit {0}
 Stops Unnamed given = given ≡ Err unnamed
-Stops (OutOfList kind field i) given = given ≡ Err (bad (record { kind = kind_word kind; field = field_word kind field; index = i }))
+Stops (OutOfList kind field i) given = given
+    ≡ Err (bad (record { kind = kind_word kind; field = field_word kind field; index = i }))
 
--- What was made, seen by view, is what the definition gives, or the first stop is that of the definition.
+-- What was made, seen by view, is what the definition gives, or the first stop is that of the
+-- definition.
 abbrev pub Meets : {X Y : Type 0} → (X → Y) → Result X Stop → Result Y Stopped → Type 0
 Meets view (Ok x) given = given ≡ Ok (view x)
 Meets view (Err e) given = Stops e given
 
 -- The same with the counts that are left.
-abbrev pub MeetsWith : {X Y : Type 0} → (X → Y) → Result X Stop → List ℕ → Result (Y × List ℕ) Stopped → Type 0
+abbrev pub MeetsWith : {X Y : Type 0} → (X → Y) → Result X Stop → List ℕ
+    → Result (Y × List ℕ) Stopped → Type 0
 MeetsWith view (Ok x) now given = given ≡ Ok (view x, now)
 MeetsWith view (Err e) now given = Stops e given

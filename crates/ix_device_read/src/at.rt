@@ -1,6 +1,7 @@
 //! A struct of a message that is being taken.
 
-ghost use Rattle.std.specs.Prelude.{◌≡◌, ◌<◌, ◌-◌, ◌%◌, ◌^◌, slice_index, length, map, IfOk, if◌then◌else◌, Some, None};
+ghost use Rattle.std.specs.Prelude.{◌≡◌, ◌<◌, ◌-◌, ◌%◌, ◌^◌, slice_index, length, map, IfOk};
+ghost use Rattle.std.specs.Prelude.{if◌then◌else◌, Some, None};
 ghost use Rattle.ix_message.specs.Records.{IfThere};
 ghost use Rattle.std.specs.List.{AllByRecursion};
 ghost use Rattle.ix_frame.specs.Sound.{sound_elements, sound_list, sound_struct, sound_text};
@@ -10,7 +11,8 @@ ghost use Rattle.ix_frame.specs.Objects.{u32_in, numbers_in, has_pointer};
 ghost use Rattle.ix_frame.specs.Views.{object_of};
 ghost use Rattle.ix_message.specs.Shape.{name, choice};
 ghost use Rattle.ix_message.specs.Names.{the_text, the_number, option_with};
-ghost use Rattle.ix_device_read.specs.Finish.{asked_at, below, known, each_alone, finish_at, finish_each, finish_option};
+ghost use Rattle.ix_device_read.specs.Finish.{asked_at, below, known, each_alone, finish_at};
+ghost use Rattle.ix_device_read.specs.Finish.{finish_each, finish_option};
 ghost use Rattle.ix_device_read.specs.Named.{limit_of, AllNamed};
 ghost use Rattle.ix_device_read.specs.Numbers.{name_text};
 ghost use Rattle.ix_device_read.specs.Views.{sizes_of, Meets, MeetsWith, kind_word, field_word};
@@ -57,7 +59,10 @@ impl<'a> At<'a> {
     /// The name with the place in the string table that this data field has.
     pub fn name(&self, ctx: &Context<'_>, walk: &Walk, field: u32) -> Result<NameId, Stop>
         requires { self.now.kind < KINDS }
-        ensures made { Meets (λ id. the_text (name_text ctx.now.names.now id)) result (asked_at (sizes_of ctx.now self.now.scope) walk.now self.now.kind (kind_word self.now.kind) (field_word self.now.kind field) name (u32_in (object_of self.now.o) field)) }
+        ensures made { Meets (λ id. the_text (name_text ctx.now.names.now id)) result
+            (asked_at (sizes_of ctx.now self.now.scope) walk.now self.now.kind
+            (kind_word self.now.kind) (field_word self.now.kind field) name
+            (u32_in (object_of self.now.o) field)) }
         ensures within { IfOk result (λ id. id < limit_of ctx.now) }
     {
         self.name_of(ctx, walk, field as usize, self.o.u32_at(field))
@@ -66,7 +71,9 @@ impl<'a> At<'a> {
     /// The name with this place in the string table.
     fn name_of(&self, ctx: &Context<'_>, walk: &Walk, field: usize, n: u32) -> Result<NameId, Stop>
         requires { self.now.kind < KINDS }
-        ensures made { Meets (λ id. the_text (name_text ctx.now.names.now id)) result (asked_at (sizes_of ctx.now self.now.scope) walk.now self.now.kind (kind_word self.now.kind) (field_word self.now.kind field) name n) }
+        ensures made { Meets (λ id. the_text (name_text ctx.now.names.now id)) result
+            (asked_at (sizes_of ctx.now self.now.scope) walk.now self.now.kind
+            (kind_word self.now.kind) (field_word self.now.kind field) name n) }
         ensures within { IfOk result (λ id. id < limit_of ctx.now) }
     {
         if (n as usize) < ctx.strings.len() {
@@ -79,7 +86,9 @@ impl<'a> At<'a> {
     /// The number of this data field, where it is below the length of its list.
     pub fn index(&self, walk: &Walk, field: u32, limit: u32) -> Result<u32, Stop>
         requires { self.now.kind < KINDS }
-        ensures exact { Meets the_number result (below walk.now self.now.kind (kind_word self.now.kind) (field_word self.now.kind field) limit (u32_in (object_of self.now.o) field)) }
+        ensures exact { Meets the_number result
+            (below walk.now self.now.kind (kind_word self.now.kind) (field_word self.now.kind field)
+            limit (u32_in (object_of self.now.o) field)) }
         ensures same { IfOk result (λ n. u32_in (object_of self.now.o) field ≡ n) }
     {
         let n = self.o.u32_at(field);
@@ -93,7 +102,10 @@ impl<'a> At<'a> {
     /// The tag or enumerant of this data field.
     pub fn choice<T: Choice>(&self, ctx: &Context<'_>, walk: &Walk, field: u32) -> Result<T, Stop>
         requires { self.now.kind < KINDS }
-        ensures { Meets (λ x. the_number (T.number x)) result (asked_at (sizes_of ctx.now self.now.scope) walk.now self.now.kind (kind_word self.now.kind) (field_word self.now.kind field) (choice T.most) (u32_in (object_of self.now.o) field % 2 ^ 16)) }
+        ensures { Meets (λ x. the_number (T.number x)) result
+            (asked_at (sizes_of ctx.now self.now.scope) walk.now self.now.kind
+            (kind_word self.now.kind) (field_word self.now.kind field) (choice T.most)
+            (u32_in (object_of self.now.o) field % 2 ^ 16)) }
     {
         match T::of(self.o.tag_at(field)) {
             Some(x) => Ok(x),
@@ -103,7 +115,9 @@ impl<'a> At<'a> {
 
     /// How many structs the list behind this pointer has.
     pub fn count<T: Take>(&self, slot: u32) -> u32
-        ensures { result ≡ length (each_said (said T.shape) (sound_elements (object_of self.now.o) slot).count (sound_elements (object_of self.now.o) slot) 0) }
+        ensures { result ≡ length (each_said (said T.shape)
+            (sound_elements (object_of self.now.o) slot).count
+            (sound_elements (object_of self.now.o) slot) 0) }
     {
         self.o.sound_list(slot).len()
     }
@@ -116,7 +130,10 @@ impl<'a> At<'a> {
         scope: Scope,
         walk: &mut Walk,
     ) -> Result<Items<T>, Stop>
-        ensures made { MeetsWith (map (T.record_by ctx.now.names.now)) result walk.new (finish_each (finish_at T.shape (sizes_of ctx.now scope)) (each_said (said T.shape) (sound_elements (object_of self.now.o) slot).count (sound_elements (object_of self.now.o) slot) 0) walk.old) }
+        ensures made { MeetsWith (map (T.record_by ctx.now.names.now)) result walk.new
+            (finish_each (finish_at T.shape (sizes_of ctx.now scope))
+            (each_said (said T.shape) (sound_elements (object_of self.now.o) slot).count
+            (sound_elements (object_of self.now.o) slot) 0) walk.old) }
         ensures named { IfOk result (AllByRecursion (T.named (limit_of ctx.now))) }
     {
         take_list(self.o.sound_list(slot), ctx, scope, walk)
@@ -125,7 +142,8 @@ impl<'a> At<'a> {
     /// The BEL pin of the site type around with this number.
     fn bel_pin(&self, walk: &Walk, field: usize, n: u32) -> Result<BelPinId, Stop>
         requires { self.now.kind < KINDS }
-        ensures { Meets the_number result (below walk.now self.now.kind (kind_word self.now.kind) (field_word self.now.kind field) self.now.scope.bel_pins n) }
+        ensures { Meets the_number result (below walk.now self.now.kind (kind_word self.now.kind)
+            (field_word self.now.kind field) self.now.scope.bel_pins n) }
     {
         if n < self.scope.bel_pins {
             Ok(BelPinId::new(n))
@@ -144,7 +162,10 @@ impl<'a> At<'a> {
         field: usize,
     ) -> Result<Items<BelPinId>, Stop>
         requires { self.now.kind < KINDS }
-        ensures { Meets (map the_number) result (each_alone (below walk.now self.now.kind (kind_word self.now.kind) (field_word self.now.kind field) self.now.scope.bel_pins) (numbers_in (sound_list 4 (object_of self.now.o) slot))) }
+        ensures { Meets (map the_number) result
+            (each_alone (below walk.now self.now.kind (kind_word self.now.kind)
+            (field_word self.now.kind field) self.now.scope.bel_pins)
+            (numbers_in (sound_list 4 (object_of self.now.o) slot))) }
     {
         let list = self.o.sound_numbers(slot);
         let mut found = Items::with_capacity(ctx.alloc, list.len() as usize)?;
@@ -167,7 +188,10 @@ impl<'a> At<'a> {
         field: usize,
     ) -> Result<Items<NameId>, Stop>
         requires { self.now.kind < KINDS }
-        ensures made { Meets (map (λ id. the_text (name_text ctx.now.names.now id))) result (each_alone (asked_at (sizes_of ctx.now self.now.scope) walk.now self.now.kind (kind_word self.now.kind) (field_word self.now.kind field) name) (numbers_in (sound_list 4 (object_of self.now.o) slot))) }
+        ensures made { Meets (map (λ id. the_text (name_text ctx.now.names.now id))) result
+            (each_alone (asked_at (sizes_of ctx.now self.now.scope) walk.now self.now.kind
+            (kind_word self.now.kind) (field_word self.now.kind field) name)
+            (numbers_in (sound_list 4 (object_of self.now.o) slot))) }
         ensures named { IfOk result (AllNamed (limit_of ctx.now)) }
     {
         let list = self.o.sound_numbers(slot);
@@ -185,7 +209,8 @@ impl<'a> At<'a> {
     /// The number, where it is below the length of its list.
     fn index_of(&self, walk: &Walk, field: usize, limit: u32, n: u32) -> Result<u32, Stop>
         requires { self.now.kind < KINDS }
-        ensures { Meets the_number result (below walk.now self.now.kind (kind_word self.now.kind) (field_word self.now.kind field) limit n) }
+        ensures { Meets the_number result (below walk.now self.now.kind (kind_word self.now.kind)
+            (field_word self.now.kind field) limit n) }
     {
         if n < limit {
             Ok(n)
@@ -205,7 +230,10 @@ impl<'a> At<'a> {
         limit: u32,
     ) -> Result<Items<u32>, Stop>
         requires { self.now.kind < KINDS }
-        ensures { Meets (map the_number) result (each_alone (below walk.now self.now.kind (kind_word self.now.kind) (field_word self.now.kind field) limit) (numbers_in (sound_list 4 (object_of self.now.o) slot))) }
+        ensures { Meets (map the_number) result
+            (each_alone (below walk.now self.now.kind (kind_word self.now.kind)
+            (field_word self.now.kind field) limit)
+            (numbers_in (sound_list 4 (object_of self.now.o) slot))) }
     {
         let list = self.o.sound_numbers(slot);
         let mut found = Items::with_capacity(ctx.alloc, list.len() as usize)?;
@@ -236,7 +264,8 @@ impl<'a> At<'a> {
     /// The name that the text is.
     #[tactic(auto, using(std::proofs::lemmas::Option::get_or_from_slice_get))]
     fn text_of(&self, ctx: &Context<'_>, text: &str) -> Result<NameId, Stop>
-        ensures made { Meets (name_text ctx.now.names.now) result (known (sizes_of ctx.now self.now.scope) text.now) }
+        ensures made { Meets (name_text ctx.now.names.now) result
+            (known (sizes_of ctx.now self.now.scope) text.now) }
         ensures within { IfOk result (λ id. id < limit_of ctx.now) }
     {
         match ctx.names.find(text) {
@@ -247,7 +276,8 @@ impl<'a> At<'a> {
 
     /// The name that the text behind this pointer is.
     pub fn text(&self, ctx: &Context<'_>, slot: u32) -> Result<NameId, Stop>
-        ensures made { Meets (name_text ctx.now.names.now) result (known (sizes_of ctx.now self.now.scope) (sound_text (object_of self.now.o) slot)) }
+        ensures made { Meets (name_text ctx.now.names.now) result
+            (known (sizes_of ctx.now self.now.scope) (sound_text (object_of self.now.o) slot)) }
         ensures within { IfOk result (λ id. id < limit_of ctx.now) }
     {
         self.text_of(ctx, self.o.sound_text(slot))
@@ -255,7 +285,10 @@ impl<'a> At<'a> {
 
     /// The names that the texts of the list behind this pointer are.
     pub fn texts(&self, ctx: &Context<'_>, slot: u32) -> Result<Items<NameId>, Stop>
-        ensures made { Meets (map (name_text ctx.now.names.now)) result (each_alone (known (sizes_of ctx.now self.now.scope)) (texts_said (sound_list 6 (object_of self.now.o) slot).count (sound_list 6 (object_of self.now.o) slot) 0)) }
+        ensures made { Meets (map (name_text ctx.now.names.now)) result
+            (each_alone (known (sizes_of ctx.now self.now.scope))
+            (texts_said (sound_list 6 (object_of self.now.o) slot).count
+            (sound_list 6 (object_of self.now.o) slot) 0)) }
         ensures named { IfOk result (AllNamed (limit_of ctx.now)) }
     {
         let list = self.o.sound_texts(slot);
@@ -278,7 +311,9 @@ impl<'a> At<'a> {
         scope: Scope,
         walk: &mut Walk,
     ) -> Result<T, Stop>
-        ensures made { MeetsWith (T.record_by ctx.now.names.now) result walk.new (finish_at T.shape (sizes_of ctx.now scope) (said T.shape (sound_struct (object_of self.now.o) slot)) walk.old) }
+        ensures made { MeetsWith (T.record_by ctx.now.names.now) result walk.new
+            (finish_at T.shape (sizes_of ctx.now scope)
+            (said T.shape (sound_struct (object_of self.now.o) slot)) walk.old) }
         ensures named { IfOk result (T.named (limit_of ctx.now)) }
     {
         T::take(self.o.sound_obj(slot), ctx, scope, walk)
@@ -293,7 +328,11 @@ impl<'a> At<'a> {
         scope: Scope,
         walk: &mut Walk,
     ) -> Result<Option<T>, Stop>
-        ensures made { MeetsWith (option_with (T.record_by ctx.now.names.now)) result walk.new (finish_option (finish_at T.shape (sizes_of ctx.now scope)) (if has_pointer (object_of self.now.o) slot then Some (said T.shape (sound_struct (object_of self.now.o) slot)) else None) walk.old) }
+        ensures made { MeetsWith (option_with (T.record_by ctx.now.names.now)) result walk.new
+            (finish_option (finish_at T.shape (sizes_of ctx.now scope))
+            (if has_pointer (object_of self.now.o) slot
+            then Some (said T.shape (sound_struct (object_of self.now.o) slot))
+            else None) walk.old) }
         ensures named { IfOk result (IfThere (T.named (limit_of ctx.now))) }
     {
         if self.o.has(slot) {

@@ -75,7 +75,9 @@ impl Take for DeviceRec {
 
 /// Of each tile type of a list, how many types its sites have.
 fn site_type_counts(alloc: Global, list: List<'_>) -> Result<Items<u32>, Memory>
-    ensures counts { IfOk result (λ counts. counts ≡ map site_type_count (each_said (said tile_type) (elements_of list.entry).count (elements_of list.entry) 0)) }
+    ensures counts { IfOk result (λ counts. counts
+        ≡ map site_type_count (each_said (said tile_type) (elements_of list.entry).count
+        (elements_of list.entry) 0)) }
     ensures few { IfOk result (λ counts. length counts < 2 ^ 32) }
 {
     let mut counts = Items::with_capacity(alloc, list.len() as usize)?;
@@ -94,9 +96,13 @@ fn device_context<'n>(
     root: Obj<'_>,
     tile_types: &'n [u32],
 ) -> Context<'n>
-    requires counts { tile_types.now ≡ map site_type_count (each_said (said tile_type) (sound_elements (object_of root) 3).count (sound_elements (object_of root) 3) 0) }
+    requires counts { tile_types.now ≡ map site_type_count
+        (each_said (said tile_type) (sound_elements (object_of root) 3).count
+        (sound_elements (object_of root) 3) 0) }
     requires few { length tile_types.now < 2 ^ 32 }
-    ensures sizes { sizes_of result (record { bel_pins = 0; tile_wires = 0; tile_type = 0 }) ≡ device_sizes (map (name_text names.now) strings.now) names.now (said device (object_of root.entry)) }
+    ensures sizes { sizes_of result (record { bel_pins = 0; tile_wires = 0; tile_type = 0 })
+        ≡ device_sizes (map (name_text names.now) strings.now) names.now
+        (said device (object_of root.entry)) }
     ensures names { result.names.now ≡ names.now }
     ensures strings { result.strings.now ≡ strings.now }
 {
@@ -118,7 +124,9 @@ pub fn take_device(
     strings: &[NameId],
     root: Obj<'_>,
 ) -> Result<DeviceRec, Stop>
-    ensures made { Meets (device_record names.now) result (device_finished (map (name_text names.now) strings.now) names.now (said device (object_of root.entry))) }
+    ensures made { Meets (device_record names.now) result
+        (device_finished (map (name_text names.now) strings.now) names.now
+        (said device (object_of root.entry))) }
     ensures named { IfOk result (DeviceNamed (limit strings.now names.now)) }
     ensures fits { IfOk result IndexesFit }
 {

@@ -23,13 +23,17 @@ pub trait HasTexts: Sized {
     /// some were added.
     fn add_texts(o: Obj<'_>, names: &mut Names) -> Result<(), Memory>
         requires { HasRoom (loose_texts form (said form (object_of o))) names.old }
-        ensures { Adds result (loose_texts form (said form (object_of o.entry))) names.old names.new };
+        ensures { Adds result (loose_texts form (said form (object_of o.entry))) names.old
+            names.new };
 }
 
 /// Adds the texts of each struct of a list.
 fn add_list<T: HasTexts>(l: List<'_>, names: &mut Names) -> Result<(), Memory>
-    requires { HasRoom (flat_map (loose_texts T.form) (each_said (said T.form) (elements_of l).count (elements_of l) 0)) names.old }
-    ensures { Adds result (flat_map (loose_texts T.form) (each_said (said T.form) (elements_of l.entry).count (elements_of l.entry) 0)) names.old names.new }
+    requires { HasRoom (flat_map (loose_texts T.form)
+        (each_said (said T.form) (elements_of l).count (elements_of l) 0)) names.old }
+    ensures { Adds result (flat_map (loose_texts T.form)
+        (each_said (said T.form) (elements_of l.entry).count (elements_of l.entry) 0)) names.old
+        names.new }
 {
     for i in 0..l.len() {
         match T::add_texts(l.at(i), names) {
@@ -46,8 +50,12 @@ pub fn add_structs_behind<T: HasTexts>(
     slot: u32,
     names: &mut Names,
 ) -> Result<(), Memory>
-    requires { HasRoom (flat_map (loose_texts T.form) (each_said (said T.form) (sound_elements (object_of o) slot).count (sound_elements (object_of o) slot) 0)) names.old }
-    ensures { Adds result (flat_map (loose_texts T.form) (each_said (said T.form) (sound_elements (object_of o.entry) slot).count (sound_elements (object_of o.entry) slot) 0)) names.old names.new }
+    requires { HasRoom (flat_map (loose_texts T.form)
+        (each_said (said T.form) (sound_elements (object_of o) slot).count
+        (sound_elements (object_of o) slot) 0)) names.old }
+    ensures { Adds result (flat_map (loose_texts T.form)
+        (each_said (said T.form) (sound_elements (object_of o.entry) slot).count
+        (sound_elements (object_of o.entry) slot) 0)) names.old names.new }
 {
     add_list::<T>(o.sound_list(slot), names)
 }
@@ -75,7 +83,8 @@ pub fn add_text_behind(o: Obj<'_>, slot: u32, names: &mut Names) -> Result<(), M
 /// Adds each text of a list.
 fn add_each(l: Texts<'_>, names: &mut Names) -> Result<(), Memory>
     requires { HasRoom (texts_said (text_elements l).count (text_elements l) 0) names.old }
-    ensures { Adds result (texts_said (text_elements l.entry).count (text_elements l.entry) 0) names.old names.new }
+    ensures { Adds result (texts_said (text_elements l.entry).count (text_elements l.entry) 0)
+        names.old names.new }
 {
     for i in 0..l.len() {
         match add_text(l.sound_at(i), names) {
@@ -88,8 +97,10 @@ fn add_each(l: Texts<'_>, names: &mut Names) -> Result<(), Memory>
 
 /// Adds each text of the list behind this pointer.
 pub fn add_texts_behind(o: Obj<'_>, slot: u32, names: &mut Names) -> Result<(), Memory>
-    requires { HasRoom (texts_said (sound_list 6 (object_of o) slot).count (sound_list 6 (object_of o) slot) 0) names.old }
-    ensures { Adds result (texts_said (sound_list 6 (object_of o.entry) slot).count (sound_list 6 (object_of o.entry) slot) 0) names.old names.new }
+    requires { HasRoom (texts_said (sound_list 6 (object_of o) slot).count
+        (sound_list 6 (object_of o) slot) 0) names.old }
+    ensures { Adds result (texts_said (sound_list 6 (object_of o.entry) slot).count
+        (sound_list 6 (object_of o.entry) slot) 0) names.old names.new }
 {
     add_each(o.sound_texts(slot), names)
 }
@@ -97,8 +108,10 @@ pub fn add_texts_behind(o: Obj<'_>, slot: u32, names: &mut Names) -> Result<(), 
 /// Adds each text of a string table, and gives their numbers, by their place in the table.
 fn add_table(alloc: Global, l: Texts<'_>, names: &mut Names) -> Result<Items<NameId>, Memory>
     requires { HasRoom (texts_said (text_elements l).count (text_elements l) 0) names.old }
-    ensures adds { Adds result (texts_said (text_elements l.entry).count (text_elements l.entry) 0) names.old names.new }
-    ensures numbers { IfOk result (λ ids. AreNumbersOf names.new ids (texts_said (text_elements l.entry).count (text_elements l.entry) 0)) }
+    ensures adds { Adds result (texts_said (text_elements l.entry).count (text_elements l.entry) 0)
+        names.old names.new }
+    ensures numbers { IfOk result (λ ids. AreNumbersOf names.new ids
+        (texts_said (text_elements l.entry).count (text_elements l.entry) 0)) }
 {
     let mut found = Items::with_capacity(alloc, l.len() as usize)?;
     for i in 0..l.len() {
@@ -118,9 +131,13 @@ pub fn add_table_behind(
     slot: u32,
     names: &mut Names,
 ) -> Result<Items<NameId>, Memory>
-    requires { HasRoom (texts_said (sound_list 6 (object_of o) slot).count (sound_list 6 (object_of o) slot) 0) names.old }
-    ensures adds { Adds result (texts_said (sound_list 6 (object_of o.entry) slot).count (sound_list 6 (object_of o.entry) slot) 0) names.old names.new }
-    ensures numbers { IfOk result (λ ids. AreNumbersOf names.new ids (texts_said (sound_list 6 (object_of o.entry) slot).count (sound_list 6 (object_of o.entry) slot) 0)) }
+    requires { HasRoom (texts_said (sound_list 6 (object_of o) slot).count
+        (sound_list 6 (object_of o) slot) 0) names.old }
+    ensures adds { Adds result (texts_said (sound_list 6 (object_of o.entry) slot).count
+        (sound_list 6 (object_of o.entry) slot) 0) names.old names.new }
+    ensures numbers { IfOk result (λ ids. AreNumbersOf names.new ids
+        (texts_said (sound_list 6 (object_of o.entry) slot).count
+        (sound_list 6 (object_of o.entry) slot) 0)) }
 {
     add_table(alloc, o.sound_texts(slot), names)
 }

@@ -23,7 +23,9 @@ pub fn inversion_of(
     scope: Scope,
     walk: &Walk,
 ) -> Result<Inversion, Stop>
-    ensures { Meets inversion_data result (inversion_asked (sizes_of ctx.now scope) walk.now (u32_in (object_of o.entry) 2 % 2 ^ 16) (u32_in (object_of o.entry) 3) (u32_in (object_of o.entry) 4)) }
+    ensures { Meets inversion_data result (inversion_asked (sizes_of ctx.now scope) walk.now
+        (u32_in (object_of o.entry) 2 % 2 ^ 16) (u32_in (object_of o.entry) 3)
+        (u32_in (object_of o.entry) 4)) }
 {
     let at = At { o, kind: 2, scope };
     match o.tag_at(2) {

@@ -23,7 +23,9 @@ pub fn package_pin_site(
     scope: Scope,
     walk: &Walk,
 ) -> Result<PackagePinSite, Stop>
-    ensures made { Meets (site_data ctx.now.names.now) result (site_asked (sizes_of ctx.now scope) walk.now (u32_in (object_of o.entry) 1 % 2 ^ 16) (u32_in (object_of o.entry) 2)) }
+    ensures made { Meets (site_data ctx.now.names.now) result
+        (site_asked (sizes_of ctx.now scope) walk.now (u32_in (object_of o.entry) 1 % 2 ^ 16)
+        (u32_in (object_of o.entry) 2)) }
     ensures named { IfOk result (PinSiteNamed (limit_of ctx.now)) }
 {
     let at = At { o, kind: 18, scope };

@@ -62,9 +62,12 @@ fn out_of_list(alloc: Global, kind: usize, field: usize, index: u32) -> ReadFaul
 /// Adds the texts of a device to the names, those of the string table first, and gives the numbers
 /// of these.
 fn add_names(alloc: Global, root: Obj<'_>, names: &mut Names) -> Result<Items<NameId>, Memory>
-    requires { HasRoom (table_said device (object_of root) ++ loose_texts device (said device (object_of root))) names.old }
-    ensures adds { Adds result (table_said device (object_of root.entry) ++ loose_texts device (said device (object_of root.entry))) names.old names.new }
-    ensures numbers { IfOk result (λ ids. AreNumbersOf names.new ids (table_said device (object_of root.entry))) }
+    requires { HasRoom (table_said device (object_of root)
+        ++ loose_texts device (said device (object_of root))) names.old }
+    ensures adds { Adds result (table_said device (object_of root.entry)
+        ++ loose_texts device (said device (object_of root.entry))) names.old names.new }
+    ensures numbers { IfOk result (λ ids. AreNumbersOf names.new ids
+        (table_said device (object_of root.entry))) }
 {
     let strings = add_table_behind(alloc, root, TABLE_SLOT, names)?;
     add_text_behind(root, 0, names)?;
@@ -82,7 +85,9 @@ fn take_named(
 ) -> Result<DeviceRec, ReadFault>
     requires known { TextsKnown names.now device (said device (object_of root)) }
     requires few { structs_in device (said device (object_of root)) < 2 ^ 32 - 1 }
-    ensures reading { IsReading (device_record names.now) result (record_unless_bad (map (name_text names.now) strings.now) device (said device (object_of root.entry))) }
+    ensures reading { IsReading (device_record names.now) result
+        (record_unless_bad (map (name_text names.now) strings.now) device
+        (said device (object_of root.entry))) }
     ensures named { IfOk result (DeviceNamed (limit strings.now names.now)) }
     ensures fits { IfOk result IndexesFit }
 {
@@ -98,22 +103,26 @@ fn take_named(
 /// rule that the whole frame breaks, in reading order, and after that the first index, enumerant or
 /// tag that is out of its list.
 ///
-/// The texts of the string table are added first, then those behind pointers in reading order, each unless it is a name;
-/// none where the frame breaks a rule. At most 2^28 + 66 names are added, also where memory is wanting, and each name keeps
-/// its number. No list of the record has more than 2^28 + 64 entries.
+/// The texts of the string table are added first, then those behind pointers in reading order, each
+/// unless it is a name; none where the frame breaks a rule. At most 2^28 + 66 names are added, also
+/// where memory is wanting, and each name keeps its number. No list of the record has more than
+/// 2^28 + 64 entries.
 pub fn read_device(
     alloc: Global,
     frame: &Frame<'_>,
     names: &mut Names,
 ) -> Result<DeviceRec, ReadFault>
     requires { length names.old + 2 ^ 28 + 66 < 2 ^ 32 - 1 }
-    ensures reading { IsReading (device_record names.new) result (reading_in_segments device (segments_of frame.now)) }
+    ensures reading { IsReading (device_record names.new) result
+        (reading_in_segments device (segments_of frame.now)) }
     ensures named { IfOk result (DeviceNamed (length names.new)) }
-    ensures lists { IfOk result (λ rec. ListsWithin (2 ^ 28 + 64) Datum device (device_record names.new rec)) }
+    ensures lists { IfOk result (λ rec. ListsWithin (2 ^ 28 + 64) Datum device
+        (device_record names.new rec)) }
     ensures fits { IfOk result IndexesFit }
     ensures keeps { KeepsNumbers names.old names.new }
     ensures most { length names.new ≤ length names.old + 2 ^ 28 + 66 }
-    ensures adds { AddsExactly result (texts_in device (numbers_in_segments device (segments_of frame.now))) names.old names.new }
+    ensures adds { AddsExactly result (texts_in device
+        (numbers_in_segments device (segments_of frame.now))) names.old names.new }
 {
     let root = match pass_device(alloc, frame) {
         Ok(root) => root,

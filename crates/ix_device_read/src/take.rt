@@ -30,7 +30,8 @@ pub trait Take: Sized + Drop {
     /// The part of the record that this struct makes, or the first of its numbers that is out of
     /// its list, in reading order.
     fn take(o: Obj<'_>, ctx: &Context<'_>, scope: Scope, walk: &mut Walk) -> Result<Self, Stop>
-        ensures made { MeetsWith (record_by ctx.now.names.now) result walk.new (finish_at shape (sizes_of ctx.now scope) (said shape (object_of o.entry)) walk.old) }
+        ensures made { MeetsWith (record_by ctx.now.names.now) result walk.new
+            (finish_at shape (sizes_of ctx.now scope) (said shape (object_of o.entry)) walk.old) }
         ensures named { IfOk result (named (limit_of ctx.now)) };
 }
 
@@ -41,7 +42,9 @@ pub fn take_list<T: Take>(
     scope: Scope,
     walk: &mut Walk,
 ) -> Result<Items<T>, Stop>
-    ensures made { MeetsWith (map (T.record_by ctx.now.names.now)) result walk.new (finish_each (finish_at T.shape (sizes_of ctx.now scope)) (each_said (said T.shape) (elements_of l.entry).count (elements_of l.entry) 0) walk.old) }
+    ensures made { MeetsWith (map (T.record_by ctx.now.names.now)) result walk.new
+        (finish_each (finish_at T.shape (sizes_of ctx.now scope))
+        (each_said (said T.shape) (elements_of l.entry).count (elements_of l.entry) 0) walk.old) }
     ensures named { IfOk result (AllByRecursion (T.named (limit_of ctx.now))) }
 {
     let mut found = Items::with_capacity(ctx.alloc, l.len() as usize)?;

@@ -8,7 +8,8 @@ use std::marker::Model;
 /// How many kinds of structs device resources have.
 pub const KINDS: usize = 29;
 
-/// How many structs of each kind were begun so far, in reading order. A count stays at 2^32 - 1, which no message reaches.
+/// How many structs of each kind were begun so far, in reading order. A count stays at 2^32 - 1,
+/// which no message reaches.
 #[derive(Drop)]
 pub struct Walk {
     counts: [u32; KINDS],

@@ -7,7 +7,7 @@ use Rattle.ix_message.specs.Shape.{Text}
 use Rattle.ix_message.specs.Names.{same_text}
 use Rattle.ix_message.specs.Indexes.{Step, begun, asked, begins}
 use Rattle.ix_message.proofs.NamesAgain.{same_text-true}
-use Rattle.ix_device_rules.specs.Kinds.{kinds, place_of}
+use Rattle.ix_device_rules.specs.Kinds.{kinds, number_of_kind}
 
 -- whether the kind is one of these
 abbrev pub has_kind : List String → String → Bool
@@ -50,22 +50,22 @@ others_stay (k ∷ ks) kind before none = by (same_text (codes kind) (codes k)) 
 same_others : (ks : List String) (k kind : String) → codes kind ≡ codes k → has_kind ks kind ≡ has_kind ks k
 same_others ks k kind same = ap (λ t. list_any (λ j. same_text t (codes j)) ks) same
 
-pub counts_more : (ks : List String) → Differ ks → (kind : String) (before : List Step) → slice_set (counts_in ks before) (place_of ks kind) (slice_index (counts_in ks before) (place_of ks kind) + 1) ≡ counts_in ks (before ++ begun kind ∷ [])
+pub counts_more : (ks : List String) → Differ ks → (kind : String) (before : List Step) → slice_set (counts_in ks before) (number_of_kind ks kind) (slice_index (counts_in ks before) (number_of_kind ks kind) + 1) ≡ counts_in ks (before ++ begun kind ∷ [])
 counts_more [] differ kind before = refl
 counts_more (k ∷ ks) differ kind before = by (same_text (codes kind) (codes k)) refl (counts_more ks differ.1 kind before)
   where
     n : ℕ
     n = count_by (begins k) before
 
-    by : (b : Bool) → same_text (codes kind) (codes k) ≡ b → slice_set (counts_in ks before) (place_of ks kind) (slice_index (counts_in ks before) (place_of ks kind) + 1) ≡ counts_in ks (before ++ begun kind ∷ [])
-        → slice_set (counts_in (k ∷ ks) before) (if b then 0 else place_of ks kind + 1) (slice_index (counts_in (k ∷ ks) before) (if b then 0 else place_of ks kind + 1) + 1) ≡ counts_in (k ∷ ks) (before ++ begun kind ∷ [])
+    by : (b : Bool) → same_text (codes kind) (codes k) ≡ b → slice_set (counts_in ks before) (number_of_kind ks kind) (slice_index (counts_in ks before) (number_of_kind ks kind) + 1) ≡ counts_in ks (before ++ begun kind ∷ [])
+        → slice_set (counts_in (k ∷ ks) before) (if b then 0 else number_of_kind ks kind + 1) (slice_index (counts_in (k ∷ ks) before) (if b then 0 else number_of_kind ks kind + 1) + 1) ≡ counts_in (k ∷ ks) (before ++ begun kind ∷ [])
     by true e rest =
         let like : codes kind ≡ codes k = same_text-true (codes kind) (codes k) e in
         let none : has_kind ks kind ≡ false = same_others ks k kind like ∙ differ.0 in
         (λ i. sym (count_push k kind before ∙ ap (λ c. count_by (begins k) before + cond c 1 0) e) i ∷ sym (others_stay ks kind before none) i)
     by false e rest =
         let here : count_by (begins k) before ≡ count_by (begins k) (before ++ begun kind ∷ []) = sym (count_push k kind before ∙ ap (λ c. count_by (begins k) before + cond c 1 0) e ∙ add-zero (count_by (begins k) before)) in
-        ap (λ m. slice_set (counts_in (k ∷ ks) before) m (slice_index (counts_in (k ∷ ks) before) m + 1)) (add-one (place_of ks kind)) ∙ (λ i. here i ∷ rest i)
+        ap (λ m. slice_set (counts_in (k ∷ ks) before) m (slice_index (counts_in (k ∷ ks) before) m + 1)) (add-one (number_of_kind ks kind)) ∙ (λ i. here i ∷ rest i)
 
 begins_text : Text → Step → Bool
 begins_text t (begun k) = same_text (codes k) t
@@ -75,11 +75,11 @@ same_count : (k kind : String) (before : List Step) → codes kind ≡ codes k �
 unfolding begins_text
 same_count k kind before same = ap (λ t. count_by (begins_text t) before) (sym same)
 
-pub index_at : (ks : List String) (kind : String) (before : List Step) → has_kind ks kind ≡ true → slice_index (counts_in ks before) (place_of ks kind) ≡ count_by (begins kind) before
+pub index_at : (ks : List String) (kind : String) (before : List Step) → has_kind ks kind ≡ true → slice_index (counts_in ks before) (number_of_kind ks kind) ≡ count_by (begins kind) before
 index_at [] kind before there = absurd (true≢false (sym there))
 index_at (k ∷ ks) kind before there = by (same_text (codes kind) (codes k)) refl there (index_at ks kind before)
   where
-    by : (b : Bool) → same_text (codes kind) (codes k) ≡ b → (b || has_kind ks kind) ≡ true → (has_kind ks kind ≡ true → slice_index (counts_in ks before) (place_of ks kind) ≡ count_by (begins kind) before)
-        → slice_index (counts_in (k ∷ ks) before) (if b then 0 else place_of ks kind + 1) ≡ count_by (begins kind) before
+    by : (b : Bool) → same_text (codes kind) (codes k) ≡ b → (b || has_kind ks kind) ≡ true → (has_kind ks kind ≡ true → slice_index (counts_in ks before) (number_of_kind ks kind) ≡ count_by (begins kind) before)
+        → slice_index (counts_in (k ∷ ks) before) (if b then 0 else number_of_kind ks kind + 1) ≡ count_by (begins kind) before
     by true e h rest = same_count k kind before (same_text-true (codes kind) (codes k) e)
-    by false e h rest = ap (λ m. slice_index (counts_in (k ∷ ks) before) m) (add-one (place_of ks kind)) ∙ rest h
+    by false e h rest = ap (λ m. slice_index (counts_in (k ∷ ks) before) m) (add-one (number_of_kind ks kind)) ∙ rest h

@@ -10,7 +10,7 @@ use Rattle.ix_rec.specs.declared.place.Place.{Place}
 use Rattle.ix_rec.specs.declared.place.Place.TheVariants as P
 use Rattle.ix_device_rules.specs.declared.stop.Stop.{Stop}
 use Rattle.ix_device_rules.specs.declared.stop.Stop.TheVariants.{Broken, Memory}
-use Rattle.ix_device_rules.specs.Walks.{walked, Walks, Tells, IsFound, one_more}
+use Rattle.ix_device_rules.specs.Walks.{walked, Walks, MeetsWalk, IsFound, one_more}
 use Rattle.ix_device_rules.specs.Rules.{by_earlier, each_by_earlier}
 
 infixl 10 ◌>>=◌
@@ -30,24 +30,24 @@ pub walks_none : (a : List ℕ) → Walks {X = Unit {0}} [] a (Ok tt) a
 unfolding walked
 walks_none a = record { tells = refl }
 
-tells_then : {X Y : Type 0} (x : X) (b c : List ℕ) (r : Result Y Stop) (g : Result (List ℕ) Item) (ys : List Step) → Tells (Ok x) b g → Tells r c (walked ys b) → Tells r c (g >>= walked ys)
-tells_then x b c r g ys h k = subst (λ g. Tells r c (g >>= walked ys)) (sym h) k
+tells_then : {X Y : Type 0} (x : X) (b c : List ℕ) (r : Result Y Stop) (g : Result (List ℕ) Item) (ys : List Step) → MeetsWalk (Ok x) b g → MeetsWalk r c (walked ys b) → MeetsWalk r c (g >>= walked ys)
+tells_then x b c r g ys h k = subst (λ g. MeetsWalk r c (g >>= walked ys)) (sym h) k
 
 found_on : (p : Place) (g : Result (List ℕ) Item) (ys : List Step) → IsFound p g → IsFound p (g >>= walked ys)
 found_on (P.Item k f i) g ys h = ap (λ g. g >>= walked ys) h
 found_on _ g ys h = h
 
-tells_stop : (X Y : Type 0) (e : Stop) (b c : List ℕ) (g : Result (List ℕ) Item) (ys : List Step) → Tells {X = X} (Err e) b g → Tells {X = Y} (Err e) c (g >>= walked ys)
+tells_stop : (X Y : Type 0) (e : Stop) (b c : List ℕ) (g : Result (List ℕ) Item) (ys : List Step) → MeetsWalk {X = X} (Err e) b g → MeetsWalk {X = Y} (Err e) c (g >>= walked ys)
 tells_stop X Y Memory b c g ys h = tt
 tells_stop X Y (Broken p) b c g ys h = found_on p g ys h
 
 -- one list after another
 pub walks_then : {X Y : Type 0} {x : X} {xs ys : List Step} {a b c : List ℕ} {r : Result Y Stop} → Walks xs a (Ok x) b → Walks ys b r c → Walks (xs ++ ys) a r c
-walks_then {x = x} {xs = xs} {ys = ys} {a = a} {b = b} {c = c} {r = r} h k = record { tells = subst (Tells r c) (sym (walked-append xs ys a)) (tells_then x b c r (walked xs a) ys h.tells k.tells) }
+walks_then {x = x} {xs = xs} {ys = ys} {a = a} {b = b} {c = c} {r = r} h k = record { tells = subst (MeetsWalk r c) (sym (walked-append xs ys a)) (tells_then x b c r (walked xs a) ys h.tells k.tells) }
 
 -- what stops a walk stops all that begin with it
 pub walks_stop : {X Y : Type 0} {e : Stop} {xs : List Step} (ys : List Step) {a b : List ℕ} (c : List ℕ) → Walks {X = X} xs a (Err e) b → Walks {X = Y} (xs ++ ys) a (Err e) c
-walks_stop {X = X} {Y = Y} {e = e} {xs = xs} ys {a = a} {b = b} c h = record { tells = subst (Tells {X = Y} (Err e) c) (sym (walked-append xs ys a)) (tells_stop X Y e b c (walked xs a) ys h.tells) }
+walks_stop {X = X} {Y = Y} {e = e} {xs = xs} ys {a = a} {b = b} c h = record { tells = subst (MeetsWalk {X = Y} (Err e) c) (sym (walked-append xs ys a)) (tells_stop X Y e b c (walked xs a) ys h.tells) }
 
 pub stops_too : {X : Type 0} {e : Stop} {xs : List Step} (ys : List Step) {a b : List ℕ} → Walks {X = X} xs a (Err e) b → Walks {X = X} (xs ++ ys) a (Err e) b
 stops_too {X = X} ys {b = b} h = walks_stop {X = X} {Y = X} ys b h

@@ -3,17 +3,25 @@ use Prim.Native.String.{String}
 use Rattle.std.specs.Prelude.{ℕ, ◌+◌, List, [], ◌∷◌, codes, if◌then◌else◌}
 use Rattle.ix_message.specs.Names.{same_text}
 use Rattle.ix_device_rules.specs.declared.kinds.Kind.{Kind}
-use Rattle.ix_device_rules.specs.declared.kinds.Kind.TheVariants.{BelPin, SitePin, Bel, SitePip, SiteWire, SiteType, SiteTypeInTileType, TileType, Site, Tile, Wire, Node, CellBelMapping, LutBel, LutElement}
+use Rattle.ix_device_rules.specs.declared.kinds.Kind.TheVariants.{BelPin, SitePin, Bel, SitePip}
+use Rattle.ix_device_rules.specs.declared.kinds.Kind.TheVariants.{SiteWire, SiteType}
+use Rattle.ix_device_rules.specs.declared.kinds.Kind.TheVariants.{SiteTypeInTileType, TileType}
+use Rattle.ix_device_rules.specs.declared.kinds.Kind.TheVariants.{Site, Tile, Wire, Node}
+use Rattle.ix_device_rules.specs.declared.kinds.Kind.TheVariants.{CellBelMapping, LutBel}
+use Rattle.ix_device_rules.specs.declared.kinds.Kind.TheVariants.{LutElement}
 use Rattle.ix_device_rules.specs.declared.kinds.Field.{Field}
 use Rattle.ix_device_rules.specs.declared.kinds.Field.TheVariants as F
 
 abbrev pub kinds : List String
-kinds = "BELPin" ∷ "SitePin" ∷ "BEL" ∷ "SitePIP" ∷ "SiteWire" ∷ "SiteType" ∷ "SiteTypeInTileType" ∷ "TileType" ∷ "Site" ∷ "Tile" ∷ "Wire" ∷ "Node" ∷ "CellBelMapping" ∷ "LutBel" ∷ "LutElement" ∷ []
+kinds = "BELPin" ∷ "SitePin" ∷ "BEL" ∷ "SitePIP" ∷ "SiteWire" ∷ "SiteType" ∷ "SiteTypeInTileType"
+    ∷ "TileType" ∷ "Site" ∷ "Tile" ∷ "Wire" ∷ "Node" ∷ "CellBelMapping" ∷ "LutBel" ∷ "LutElement"
+    ∷ []
 
 -- the place of a kind; past the end where it isn't there
-abbrev pub place_of : List String → String → ℕ
-place_of [] kind = 0
-place_of (k ∷ ks) kind = if same_text (codes kind) (codes k) then 0 else place_of ks kind + 1
+abbrev pub number_of_kind : List String → String → ℕ
+number_of_kind [] kind = 0
+number_of_kind (k ∷ ks) kind = if same_text (codes kind) (codes k) then 0
+    else number_of_kind ks kind + 1
 
 abbrev pub kind_name : Kind → String
 kind_name BelPin = "BELPin"

@@ -1,4 +1,7 @@
+-- What public contracts say.
 pub mod Rules
+pub mod Broken
+-- For private contracts and proofs.
 pub mod Kinds
 pub mod Walks
 pub mod Tables
@@ -6,4 +9,3 @@ pub mod Named
 pub mod Sizes
 pub mod TileWires
 pub mod Luts
-pub mod Broken

@@ -23,15 +23,18 @@ KnowsPins table number t = (bel pin : ℕ) → has_key table (key number bel pin
 
 -- the table has the wires of this tile type under its number
 abbrev pub KnowsWires : List Key → ℕ → TileType → Type 0
-KnowsWires table number t = (wire : ℕ) → has_key table (key number 0 wire) ≡ list_any (nat_eq wire) t.wires
+KnowsWires table number t = (wire : ℕ) → has_key table (key number 0 wire)
+    ≡ list_any (nat_eq wire) t.wires
 
 -- a name is to be that of a wire of the tile type of this number
 abbrev pub wire_is_there : List Key → ℕ → ℕ → List Step
-wire_is_there table number wire = asked "SiteTypeInTileType" "primaryPinsToTileWires" (has_key table (key number 0 wire)) ∷ []
+wire_is_there table number wire = asked "SiteTypeInTileType" "primaryPinsToTileWires"
+    (has_key table (key number 0 wire)) ∷ []
 
 -- the table knows each thing of a list under its place
 abbrev pub EachKnown : {A : Type 0} → (List Key → ℕ → A → Type 0) → List Key → List A → Type 0
-EachKnown {A} Knows table xs = (number : ℕ) (x : A) → slice_get xs number ≡ Some x → Knows table number x
+EachKnown {A} Knows table xs = (number : ℕ) (x : A) → slice_get xs number ≡ Some x
+    → Knows table number x
 
 -- the tables have the BELs and the BEL pins of each site type, and the wires of each tile type
 pub record KnowsDevice (rec : DeviceRec) (bel_table pin_table wire_table : List Key) : Type 0 where

@@ -1,4 +1,5 @@
-//! The first rule that a device breaks. Each function asks a rule where all before it are kept, and then goes on to the next.
+//! The first rule that a device breaks. Each function asks a rule where all before it are kept, and
+//! then goes on to the next.
 
 ghost use Rattle.std.specs.Prelude.{◌≡◌, [], drop, map, IfOk};
 ghost use Rattle.ix_device_rules.specs.Broken.{IsBrokenBy, Shows};
@@ -72,7 +73,8 @@ fn from_lut_elements(
     tables: &Tables<'_>,
     site_types: &Keys,
 ) -> Result<Breach, Memory>
-    requires tables { KnowsDevice rec.now tables.now.bels.now tables.now.pins.now tables.now.wires.now }
+    requires tables { KnowsDevice rec.now tables.now.bels.now tables.now.pins.now
+        tables.now.wires.now }
     requires site_types { site_types.now ≡ map site_type_key rec.now.site_type_list }
     ensures { IfOk result (Shows (first_of_rules (drop 4 (rules rec.now)))) }
 {
@@ -90,7 +92,8 @@ fn from_bels(
     tables: &Tables<'_>,
     site_types: &Keys,
 ) -> Result<Breach, Memory>
-    requires tables { KnowsDevice rec.now tables.now.bels.now tables.now.pins.now tables.now.wires.now }
+    requires tables { KnowsDevice rec.now tables.now.bels.now tables.now.pins.now
+        tables.now.wires.now }
     requires site_types { site_types.now ≡ map site_type_key rec.now.site_type_list }
     ensures { IfOk result (Shows (first_of_rules (drop 3 (rules rec.now)))) }
 {
@@ -108,7 +111,8 @@ fn from_site_wires(
     tables: &Tables<'_>,
     site_types: &Keys,
 ) -> Result<Breach, Memory>
-    requires tables { KnowsDevice rec.now tables.now.bels.now tables.now.pins.now tables.now.wires.now }
+    requires tables { KnowsDevice rec.now tables.now.bels.now tables.now.pins.now
+        tables.now.wires.now }
     requires site_types { site_types.now ≡ map site_type_key rec.now.site_type_list }
     ensures { IfOk result (Shows (first_of_rules (drop 2 (rules rec.now)))) }
 {
@@ -127,7 +131,8 @@ fn from_wires(
     site_types: &Keys,
     tiles: &Keys,
 ) -> Result<Breach, Memory>
-    requires tables { KnowsDevice rec.now tables.now.bels.now tables.now.pins.now tables.now.wires.now }
+    requires tables { KnowsDevice rec.now tables.now.bels.now tables.now.pins.now
+        tables.now.wires.now }
     requires site_types { site_types.now ≡ map site_type_key rec.now.site_type_list }
     requires tiles { tiles.now ≡ map tile_key rec.now.tile_list }
     ensures { IfOk result (Shows (first_of_rules (drop 1 (rules rec.now)))) }
@@ -147,7 +152,8 @@ fn from_names(
     site_types: &mut Keys,
     tiles: &mut Keys,
 ) -> Result<Breach, Memory>
-    requires tables { KnowsDevice rec.now tables.now.bels.now tables.now.pins.now tables.now.wires.now }
+    requires tables { KnowsDevice rec.now tables.now.bels.now tables.now.pins.now
+        tables.now.wires.now }
     requires site_types { site_types.old ≡ [] }
     requires tiles { tiles.old ≡ [] }
     ensures { IfOk result (Shows (first_of_rules (drop 0 (rules rec.now)))) }
@@ -169,9 +175,10 @@ fn by_tables(alloc: Global, rec: &DeviceRec, tables: &Tables<'_>) -> Result<Brea
     from_names(alloc, rec, tables, &mut site_types, &mut tiles)
 }
 
-/// The first rule that the device breaks, and its first place in reading order; none of a valid device. Rules are asked in
-/// their order, each where all before it are kept. It takes time in proportion to the record, up to hashing. Where the
-/// record has more than 2^32 - 1 structs of a kind, or names in a table, `Memory` is told.
+/// The first rule that the device breaks, and its first place in reading order; none of a valid
+/// device. Rules are asked in their order, each where all before it are kept. It takes time in
+/// proportion to the record, up to hashing. Where the record has more than 2^32 - 1 structs of a
+/// kind, or names in a table, `Memory` is told.
 pub fn first_broken_rule(alloc: Global, rec: &DeviceRec) -> Result<Option<(Rule, Place)>, Memory>
     ensures { IfOk result (Shows (first_broken rec.now)) }
 {

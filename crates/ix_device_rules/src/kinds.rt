@@ -1,7 +1,7 @@
 //! The kinds of structs and the fields that rules ask.
 
 ghost use Rattle.std.specs.Prelude.{◌≡◌, ◌<◌, codes};
-ghost use Rattle.ix_device_rules.specs.Kinds.{kinds, kind_name, field_name, place_of};
+ghost use Rattle.ix_device_rules.specs.Kinds.{kinds, kind_name, field_name, number_of_kind};
 
 /// How many kinds of structs the rules walk over.
 pub const KINDS: usize = 15;
@@ -81,7 +81,7 @@ pub enum Field {
 impl Kind {
     /// Its place among the kinds.
     pub fn place(self) -> usize
-        ensures exact { result ≡ place_of kinds (kind_name self) }
+        ensures exact { result ≡ number_of_kind kinds (kind_name self) }
         ensures within { result < KINDS }
     {
         match self {

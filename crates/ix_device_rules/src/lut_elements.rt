@@ -3,8 +3,11 @@
 ghost use Rattle.std.specs.Prelude.{◌≡◌, ◌+◌, ◌^◌, nat_eq, ◌++◌, map, OnOk};
 ghost use Rattle.std.specs.List.{flat_map};
 ghost use Rattle.ix_keys.specs.Keys.{key};
-ghost use Rattle.ix_device_rules.specs.Luts.{parts_of, has_bel_by, has_pin_by, input_by, lut_bel_by, element_by, element_keys, element_after, passed_bel};
-ghost use Rattle.ix_device_rules.specs.Rules.{each_by_earlier, bits_fit as bits_of_bel_fit, element_passed};
+ghost use Rattle.ix_device_rules.specs.Luts.{parts_of, has_bel_by, has_pin_by, input_by};
+ghost use Rattle.ix_device_rules.specs.Luts.{lut_bel_by, element_by, element_keys, element_after};
+ghost use Rattle.ix_device_rules.specs.Luts.{passed_bel};
+ghost use Rattle.ix_device_rules.specs.Rules.{each_by_earlier, bits_fit as bits_of_bel_fit};
+ghost use Rattle.ix_device_rules.specs.Rules.{element_passed};
 ghost use Rattle.ix_device_rules.specs.Tables.{SameKeys};
 ghost use Rattle.ix_device_rules.specs.Walks.{Walks};
 
@@ -84,7 +87,8 @@ fn inputs_stand(
     pins: &Items<NameId>,
     walk: &mut Walk,
 ) -> Result<(), Stop>
-    ensures { Walks (flat_map (input_by (parts_of parts.now) bel) pins.now) walk.old result walk.new }
+    ensures { Walks (flat_map (input_by (parts_of parts.now) bel) pins.now) walk.old result
+        walk.new }
 {
     for i in 0..pins.len() {
         let there = parts.has_pin(bel, *pins.at(i));
@@ -104,7 +108,8 @@ fn lut_bel_stands(
     bel: &LutBel,
     walk: &mut Walk,
 ) -> Result<(), Stop>
-    ensures { Walks (lut_bel_by (parts_of parts.now) seen.now width bel.now) walk.old result walk.new }
+    ensures { Walks (lut_bel_by (parts_of parts.now) seen.now width bel.now) walk.old result
+        walk.new }
 {
     match walk.enter(Kind::LutBel, Field::HighBit, bits_fit(width, bel)) {
         Ok(()) => {}
@@ -134,7 +139,8 @@ fn lut_bels_stand(
     element: &LutElement,
     walk: &mut Walk,
 ) -> Result<(), Stop>
-    ensures { Walks (flat_map (lut_bel_by (parts_of parts.now) seen.now element.now.width) element.now.bels) walk.old result walk.new }
+    ensures { Walks (flat_map (lut_bel_by (parts_of parts.now) seen.now element.now.width)
+        element.now.bels) walk.old result walk.new }
 {
     for i in 0..element.bels.len() {
         match lut_bel_stands(parts, seen, element.width, element.bels.at(i), walk) {
@@ -147,7 +153,8 @@ fn lut_bels_stand(
 
 /// Adds the BELs of an element to the table.
 fn see_bels(parts: &SiteTypeParts<'_>, element: &LutElement, seen: &mut Keys) -> Result<(), Memory>
-    ensures { OnOk result (SameKeys seen.new (seen.old ++ element_keys parts.now.name element.now)) }
+    ensures { OnOk result (SameKeys seen.new
+        (seen.old ++ element_keys parts.now.name element.now)) }
 {
     for i in 0..element.bels.len() {
         let key = parts.element_key(element.bels.at(i).name);
@@ -166,8 +173,10 @@ fn element_stands(
     seen: &mut Keys,
     walk: &mut Walk,
 ) -> Result<(), Stop>
-    ensures walks { Walks (element_by (parts_of parts.now) seen.old element.now) walk.old result walk.new }
-    ensures seen { OnOk result (SameKeys seen.new (seen.old ++ element_keys parts.now.name element.now)) }
+    ensures walks { Walks (element_by (parts_of parts.now) seen.old element.now) walk.old result
+        walk.new }
+    ensures seen { OnOk result (SameKeys seen.new
+        (seen.old ++ element_keys parts.now.name element.now)) }
 {
     let fits = (0 < element.width) & (element.width <= MOST_WIDTH);
     match walk.enter(Kind::LutElement, Field::Width, fits) {
@@ -191,8 +200,10 @@ pub fn elements_stand(
     seen: &mut Keys,
     walk: &mut Walk,
 ) -> Result<(), Stop>
-    ensures walks { Walks (each_by_earlier (element_after (parts_of parts.now) seen.old) elements.now) walk.old result walk.new }
-    ensures seen { OnOk result (SameKeys seen.new (seen.old ++ flat_map (element_keys parts.now.name) elements.now)) }
+    ensures walks { Walks (each_by_earlier (element_after (parts_of parts.now) seen.old)
+        elements.now) walk.old result walk.new }
+    ensures seen { OnOk result (SameKeys seen.new
+        (seen.old ++ flat_map (element_keys parts.now.name) elements.now)) }
 {
     for i in 0..elements.len() {
         match element_stands(parts, elements.at(i), seen, walk) {

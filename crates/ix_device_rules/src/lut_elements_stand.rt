@@ -15,7 +15,8 @@ use crate::walk::Walk;
 use ix_keys::Keys;
 use ix_rec::{DeviceRec, SiteTypeLutElements};
 
-/// The elements of an entry, whose BELs are then in the table. Those of a site type that isn't there are passed over.
+/// The elements of an entry, whose BELs are then in the table. Those of a site type that isn't
+/// there are passed over.
 fn entry_stands(
     site_types: &Keys,
     bels: &Keys,
@@ -24,8 +25,12 @@ fn entry_stands(
     seen: &mut Keys,
     walk: &mut Walk,
 ) -> Result<(), Stop>
-    ensures walks { Walks (entry_by bels.now pins.now (position (key_eq (name_key entry.now.site)) site_types.now) seen.old entry.now) walk.old result walk.new }
-    ensures seen { OnOk result (SameKeys seen.new (seen.old ++ seen_by (position (key_eq (name_key entry.now.site)) site_types.now) entry.now)) }
+    ensures walks { Walks (entry_by bels.now pins.now
+        (position (key_eq (name_key entry.now.site)) site_types.now) seen.old entry.now) walk.old
+        result walk.new }
+    ensures seen { OnOk result (SameKeys seen.new
+        (seen.old ++ seen_by (position (key_eq (name_key entry.now.site)) site_types.now)
+        entry.now)) }
 {
     match site_types.find(key_of(entry.site)) {
         Some(number) => {

@@ -63,7 +63,8 @@ pub fn names_differ_in<T: Named>(
     field: Field,
     walk: &mut Walk,
 ) -> Result<(), Stop>
-    ensures { Walks (each_by_earlier (name_is_new (kind_name kind) (field_name field) T.name_of) items.now) walk.old result walk.new }
+    ensures { Walks (each_by_earlier (name_is_new (kind_name kind) (field_name field) T.name_of)
+        items.now) walk.old result walk.new }
 {
     let mut names = Keys::new(walk.alloc());
     for i in 0..items.len() {

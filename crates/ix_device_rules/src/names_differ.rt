@@ -4,7 +4,10 @@ ghost use Rattle.std.specs.Prelude.{◌≡◌, [], ◌∷◌, ◌++◌, map, OnO
 ghost use Rattle.ix_message.specs.Indexes.{begun, asked};
 ghost use Rattle.ix_keys.specs.Keys.{key};
 ghost use Rattle.ix_device_rules.specs.Named.{site_key, site_is_new, site_type_key, tile_key};
-ghost use Rattle.ix_device_rules.specs.Rules.{each_by_earlier, bel_pin_names, site_pin_names, bel_names, wire_names, tile_type_names, site_type_names, tile_names, names_differ as all_names_differ};
+ghost use Rattle.ix_device_rules.specs.Rules.{each_by_earlier, bel_pin_names, site_pin_names};
+ghost use Rattle.ix_device_rules.specs.Rules.{bel_names, wire_names, tile_type_names};
+ghost use Rattle.ix_device_rules.specs.Rules.{site_type_names, tile_names};
+ghost use Rattle.ix_device_rules.specs.Rules.{names_differ as all_names_differ};
 ghost use Rattle.ix_device_rules.specs.Tables.{KnowsBels, EachKnown, SameKeys};
 ghost use Rattle.ix_device_rules.specs.Walks.{Walks};
 ghost use Rattle.std.specs.List.{flat_map};
@@ -33,7 +36,8 @@ fn bel_pins_differ(
     walk: &mut Walk,
 ) -> Result<(), Stop>
     requires { KnowsBels bels.now number site_type.now }
-    ensures { Walks (each_by_earlier (bel_pin_names site_type.now) site_type.now.bel_pins) walk.old result walk.new }
+    ensures { Walks (each_by_earlier (bel_pin_names site_type.now) site_type.now.bel_pins) walk.old
+        result walk.new }
 {
     let mut pins = Keys::new(walk.alloc());
     for i in 0..site_type.bel_pins.len() {
@@ -59,7 +63,10 @@ fn site_type_differs(
     walk: &mut Walk,
 ) -> Result<(), Stop>
     requires { KnowsBels bels.now number site_type.now }
-    ensures { Walks ((begun "SiteType" ∷ asked "SiteType" "name" fits ∷ []) ++ each_by_earlier (bel_pin_names site_type.now) site_type.now.bel_pins ++ each_by_earlier site_pin_names site_type.now.pins ++ each_by_earlier bel_names site_type.now.bels) walk.old result walk.new }
+    ensures { Walks ((begun "SiteType" ∷ asked "SiteType" "name" fits ∷ [])
+        ++ each_by_earlier (bel_pin_names site_type.now) site_type.now.bel_pins
+        ++ each_by_earlier site_pin_names site_type.now.pins
+        ++ each_by_earlier bel_names site_type.now.bels) walk.old result walk.new }
 {
     match walk.enter(Kind::SiteType, Field::Name, fits) {
         Ok(()) => {}
@@ -76,7 +83,8 @@ fn site_type_differs(
     names_differ_in(&site_type.bels, Kind::Bel, Field::Name, walk)
 }
 
-/// The names of site types differ, and those within each. The site types' names are left in the table.
+/// The names of site types differ, and those within each. The site types' names are left in the
+/// table.
 fn site_types_differ(
     types: &Items<SiteType>,
     bels: &Keys,
@@ -144,7 +152,8 @@ fn tile_types_differ(types: &Items<TileType>, walk: &mut Walk) -> Result<(), Sto
 
 /// The names of these sites are new in the table, to which they are added.
 fn sites_differ(sites: &Items<Site>, names: &mut Keys, walk: &mut Walk) -> Result<(), Stop>
-    ensures walks { Walks (each_by_earlier (site_is_new names.old) sites.now) walk.old result walk.new }
+    ensures walks { Walks (each_by_earlier (site_is_new names.old) sites.now) walk.old result
+        walk.new }
     ensures names { OnOk result (SameKeys names.new (names.old ++ map site_key sites.now)) }
 {
     for i in 0..sites.len() {
@@ -159,8 +168,10 @@ fn sites_differ(sites: &Items<Site>, names: &mut Keys, walk: &mut Walk) -> Resul
 
 /// The same of a tile's sites, and the tile's own name fits.
 fn tile_differs(tile: &Tile, fits: bool, site_names: &mut Keys, walk: &mut Walk) -> Result<(), Stop>
-    ensures walks { Walks ((begun "Tile" ∷ asked "Tile" "name" fits ∷ []) ++ each_by_earlier (site_is_new site_names.old) tile.now.sites) walk.old result walk.new }
-    ensures names { OnOk result (SameKeys site_names.new (site_names.old ++ map site_key tile.now.sites)) }
+    ensures walks { Walks ((begun "Tile" ∷ asked "Tile" "name" fits ∷ [])
+        ++ each_by_earlier (site_is_new site_names.old) tile.now.sites) walk.old result walk.new }
+    ensures names { OnOk result (SameKeys site_names.new
+        (site_names.old ++ map site_key tile.now.sites)) }
 {
     match walk.enter(Kind::Tile, Field::Name, fits) {
         Ok(()) => sites_differ(&tile.sites, site_names, walk),
@@ -168,7 +179,8 @@ fn tile_differs(tile: &Tile, fits: bool, site_names: &mut Keys, walk: &mut Walk)
     }
 }
 
-/// The names of tiles differ, and those of sites over all tiles. The tiles' names are left in the table.
+/// The names of tiles differ, and those of sites over all tiles. The tiles' names are left in the
+/// table.
 fn tiles_differ(tiles: &Items<Tile>, names: &mut Keys, walk: &mut Walk) -> Result<(), Stop>
     requires { names.old ≡ [] }
     ensures walks { Walks (each_by_earlier tile_names tiles.now) walk.old result walk.new }
@@ -188,8 +200,9 @@ fn tiles_differ(tiles: &Items<Tile>, names: &mut Keys, walk: &mut Walk) -> Resul
     Ok(())
 }
 
-/// The names differ of site types, tiles, sites and cells, of the BELs and pins of a site type, of the pins of a BEL and
-/// of the wires of a tile type. The names of site types and tiles are left in their tables, each at its thing's place.
+/// The names differ of site types, tiles, sites and cells, of the BELs and pins of a site type, of
+/// the pins of a BEL and of the wires of a tile type. The names of site types and tiles are left in
+/// their tables, each at its thing's place.
 pub fn names_differ(
     rec: &DeviceRec,
     bels: &Keys,

@@ -2,7 +2,9 @@
 
 ghost use Rattle.std.specs.Prelude.{◌≡◌};
 ghost use Rattle.std.specs.List.{flat_map};
-ghost use Rattle.ix_device_rules.specs.Rules.{bel_of_pin, is_same_bel, pin_has_bel, pip_is_of_one_bel, bels_of_pins, pins_have_bels as all_pins_have_bels};
+ghost use Rattle.ix_device_rules.specs.Rules.{bel_of_pin, is_same_bel, pin_has_bel};
+ghost use Rattle.ix_device_rules.specs.Rules.{pip_is_of_one_bel, bels_of_pins};
+ghost use Rattle.ix_device_rules.specs.Rules.{pins_have_bels as all_pins_have_bels};
 ghost use Rattle.ix_device_rules.specs.Tables.{KnowsBels, EachKnown};
 ghost use Rattle.ix_device_rules.specs.Walks.{Walks};
 
@@ -22,7 +24,8 @@ fn bel_pins_have_bels(
     walk: &mut Walk,
 ) -> Result<(), Stop>
     requires { KnowsBels bels.now number site_type.now }
-    ensures { Walks (flat_map (pin_has_bel site_type.now) site_type.now.bel_pins) walk.old result walk.new }
+    ensures { Walks (flat_map (pin_has_bel site_type.now) site_type.now.bel_pins) walk.old result
+        walk.new }
 {
     for i in 0..site_type.bel_pins.len() {
         let pin = site_type.bel_pins.at(i);
@@ -63,7 +66,8 @@ fn same_bel(a: Option<NameId>, b: Option<NameId>) -> bool
 
 /// Each site PIP of a site type joins pins of one BEL.
 fn site_pips_fit(site_type: &SiteType, walk: &mut Walk) -> Result<(), Stop>
-    ensures { Walks (flat_map (pip_is_of_one_bel site_type.now) site_type.now.site_pips) walk.old result walk.new }
+    ensures { Walks (flat_map (pip_is_of_one_bel site_type.now) site_type.now.site_pips) walk.old
+        result walk.new }
 {
     for i in 0..site_type.site_pips.len() {
         let pip = site_type.site_pips.at(i);

@@ -5,7 +5,8 @@ ghost use Rattle.std.specs.List.{flat_map};
 ghost use Rattle.ix_message.specs.Indexes.{begun};
 ghost use Rattle.ix_keys.specs.Keys.{name_key};
 ghost use Rattle.ix_device_rules.specs.Named.{pin_is_new};
-ghost use Rattle.ix_device_rules.specs.Rules.{each_by_earlier, pins_of_site_wires, pins_are_on_one_wire as all_pins_are_on_one_wire};
+ghost use Rattle.ix_device_rules.specs.Rules.{each_by_earlier, pins_of_site_wires};
+ghost use Rattle.ix_device_rules.specs.Rules.{pins_are_on_one_wire as all_pins_are_on_one_wire};
 ghost use Rattle.ix_device_rules.specs.Tables.{SameKeys};
 ghost use Rattle.ix_device_rules.specs.Walks.{Walks};
 
@@ -25,7 +26,8 @@ fn pin_key(pin: BelPinId) -> Key
 
 /// These pins are new in the table, to which they are added.
 fn pins_are_new(pins: &Items<BelPinId>, seen: &mut Keys, walk: &mut Walk) -> Result<(), Stop>
-    ensures walks { Walks (each_by_earlier (pin_is_new seen.old) pins.now) walk.old result walk.new }
+    ensures walks { Walks (each_by_earlier (pin_is_new seen.old) pins.now) walk.old result
+        walk.new }
     ensures seen { OnOk result (SameKeys seen.new (seen.old ++ map (λ p. name_key p) pins.now)) }
 {
     for i in 0..pins.len() {
@@ -40,8 +42,10 @@ fn pins_are_new(pins: &Items<BelPinId>, seen: &mut Keys, walk: &mut Walk) -> Res
 
 /// The same of the pins of a site wire.
 fn wire_is_new(wire: &SiteWire, seen: &mut Keys, walk: &mut Walk) -> Result<(), Stop>
-    ensures walks { Walks (begun "SiteWire" ∷ each_by_earlier (pin_is_new seen.old) wire.now.pins) walk.old result walk.new }
-    ensures seen { OnOk result (SameKeys seen.new (seen.old ++ map (λ p. name_key p) wire.now.pins)) }
+    ensures walks { Walks (begun "SiteWire" ∷ each_by_earlier (pin_is_new seen.old) wire.now.pins)
+        walk.old result walk.new }
+    ensures seen { OnOk result (SameKeys seen.new
+        (seen.old ++ map (λ p. name_key p) wire.now.pins)) }
 {
     match walk.begin(Kind::SiteWire) {
         Ok(()) => pins_are_new(&wire.pins, seen, walk),

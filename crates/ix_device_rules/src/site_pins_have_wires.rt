@@ -3,7 +3,8 @@
 ghost use Rattle.std.specs.Prelude.{◌≡◌, [], ◌∷◌, ◌++◌, nat_eq, length};
 ghost use Rattle.std.specs.List.{flat_map};
 ghost use Rattle.ix_message.specs.Indexes.{begun, asked};
-ghost use Rattle.ix_device_rules.specs.Rules.{pin_count as count_of_pins, sites_of_tile_type, site_pins_have_wires as all_site_pins_have_wires};
+ghost use Rattle.ix_device_rules.specs.Rules.{pin_count as count_of_pins, sites_of_tile_type};
+ghost use Rattle.ix_device_rules.specs.Rules.{site_pins_have_wires as all_site_pins_have_wires};
 ghost use Rattle.ix_device_rules.specs.Tables.{KnowsWires, EachKnown, wire_is_there};
 ghost use Rattle.ix_device_rules.specs.Walks.{Walks};
 
@@ -59,7 +60,12 @@ fn site_fits(
     wires: &Keys,
     walk: &mut Walk,
 ) -> Result<(), Stop>
-    ensures { Walks ((begun "SiteTypeInTileType" ∷ asked "SiteTypeInTileType" "primaryPinsToTileWires" (nat_eq (length site.now.primary_pins_to_tile_wires) (count_of_pins rec.now site.now.primary_type)) ∷ []) ++ flat_map (wire_is_there wires.now number) site.now.primary_pins_to_tile_wires) walk.old result walk.new }
+    ensures { Walks ((begun "SiteTypeInTileType"
+        ∷ asked "SiteTypeInTileType" "primaryPinsToTileWires"
+        (nat_eq (length site.now.primary_pins_to_tile_wires)
+        (count_of_pins rec.now site.now.primary_type)) ∷ [])
+        ++ flat_map (wire_is_there wires.now number) site.now.primary_pins_to_tile_wires) walk.old
+        result walk.new }
 {
     let names = &site.primary_pins_to_tile_wires;
     let fits = names.len() == pin_count(rec, site.primary_type);

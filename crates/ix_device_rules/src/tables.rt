@@ -2,7 +2,8 @@
 
 ghost use Rattle.std.specs.Prelude.{◌≡◌, ◌++◌, map, IfOk, OnOk};
 ghost use Rattle.ix_keys.specs.Keys.{key};
-ghost use Rattle.ix_device_rules.specs.Tables.{SameKeys, EachKnown, KnowsBels, KnowsPins, KnowsWires};
+ghost use Rattle.ix_device_rules.specs.Tables.{SameKeys, EachKnown, KnowsBels, KnowsPins};
+ghost use Rattle.ix_device_rules.specs.Tables.{KnowsWires};
 
 use crate::number::number_of;
 use ix_keys::{Key, Keys};
@@ -56,7 +57,8 @@ impl Part for NameId {
 
 /// Adds the parts of the thing of this number to the table.
 fn add_parts<T: Part>(parts: &Items<T>, number: u32, table: &mut Keys) -> Result<(), Memory>
-    ensures { OnOk result (SameKeys table.new (table.old ++ map (λ p. key number (T.part_of p) (T.name_of p)) parts.now)) }
+    ensures { OnOk result (SameKeys table.new
+        (table.old ++ map (λ p. key number (T.part_of p) (T.name_of p)) parts.now)) }
 {
     for i in 0..parts.len() {
         let key = parts.at(i).key(number);

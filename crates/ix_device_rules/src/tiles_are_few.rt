@@ -1,8 +1,10 @@
 //! M7: rows and columns, tile wires and directed PIPs are within their limits.
 
-ghost use Rattle.std.specs.Prelude.{◌≡◌, ◌≤◌, ◌-◌, ◌^◌, [], ◌∷◌, min, nat_le, map, slice_get, unwrap_or, IfOk};
+ghost use Rattle.std.specs.Prelude.{◌≡◌, ◌≤◌, ◌-◌, ◌^◌, [], ◌∷◌, min, nat_le, map, slice_get};
+ghost use Rattle.std.specs.Prelude.{unwrap_or, IfOk};
 ghost use Rattle.ix_message.specs.Indexes.{begun, asked};
-ghost use Rattle.ix_device_rules.specs.Rules.{directed, directed_pips, most_row, tiles_are_few as all_tiles_are_few};
+ghost use Rattle.ix_device_rules.specs.Rules.{directed, directed_pips, most_row};
+ghost use Rattle.ix_device_rules.specs.Rules.{tiles_are_few as all_tiles_are_few};
 ghost use Rattle.ix_device_rules.specs.Sizes.{size_of as type_size, no_size};
 ghost use Rattle.ix_device_rules.specs.Walks.{Walks};
 
@@ -80,7 +82,9 @@ fn size_at(sizes: &Items<Size>, ty: u32) -> Size
 
 /// The tile's place is within its limits, and the counts up to it are.
 fn tile_fits(tile: &Tile, counts_fit: bool, walk: &mut Walk) -> Result<(), Stop>
-    ensures { Walks (begun "Tile" ∷ asked "Tile" "type" counts_fit ∷ asked "Tile" "row" (nat_le tile.now.row most_row) ∷ asked "Tile" "col" (nat_le tile.now.col most_row) ∷ []) walk.old result walk.new }
+    ensures { Walks (begun "Tile" ∷ asked "Tile" "type" counts_fit
+        ∷ asked "Tile" "row" (nat_le tile.now.row most_row)
+        ∷ asked "Tile" "col" (nat_le tile.now.col most_row) ∷ []) walk.old result walk.new }
 {
     match walk.enter(Kind::Tile, Field::Type, counts_fit) {
         Ok(()) => {}

@@ -1,6 +1,7 @@
 //! A walk over a device in reading order.
 
-ghost use Rattle.std.specs.Prelude.{◌≡◌, [], ◌∷◌, ◌-◌, ◌<◌, ◌+◌, ◌^◌, not, replicate, slice_index, codes, OnOk};
+ghost use Rattle.std.specs.Prelude.{◌≡◌, [], ◌∷◌, ◌-◌, ◌<◌, ◌+◌, ◌^◌, not, replicate, slice_index};
+ghost use Rattle.std.specs.Prelude.{codes, OnOk};
 ghost use Rattle.ix_message.specs.Indexes.{begun, asked};
 ghost use Rattle.ix_keys.specs.Keys.{has_key, with_key};
 ghost use Rattle.ix_device_rules.specs.Kinds.{kind_name, field_name};
@@ -57,7 +58,8 @@ impl Walk {
         self.alloc
     }
 
-    /// A struct of this kind is begun. Where there are more than 2^32 - 1 of a kind, memory is told to be wanting.
+    /// A struct of this kind is begun. Where there are more than 2^32 - 1 of a kind, memory is told
+    /// to be wanting.
     #[tactic(auto, unfolding(crate::specs::Walks::walked))]
     pub fn begin(&mut self, kind: Kind) -> Result<(), Stop>
         ensures { Walks (begun (kind_name kind) ∷ []) self.old result self.new }
@@ -74,7 +76,8 @@ impl Walk {
     /// A field of the last struct of this kind is asked.
     #[tactic(auto, unfolding(crate::specs::Walks::walked))]
     pub fn ask(&self, kind: Kind, field: Field, fits: bool) -> Result<(), Stop>
-        ensures { Walks (asked (kind_name kind) (field_name field) fits ∷ []) self.now result self.now }
+        ensures { Walks (asked (kind_name kind) (field_name field) fits ∷ []) self.now result
+            self.now }
     {
         if fits {
             return Ok(());
@@ -85,7 +88,8 @@ impl Walk {
 
     /// A struct of this kind is begun, and its first field is asked.
     pub fn enter(&mut self, kind: Kind, field: Field, fits: bool) -> Result<(), Stop>
-        ensures { Walks (begun (kind_name kind) ∷ asked (kind_name kind) (field_name field) fits ∷ []) self.old result self.new }
+        ensures { Walks (begun (kind_name kind) ∷ asked (kind_name kind) (field_name field) fits
+            ∷ []) self.old result self.new }
     {
         match self.begin(kind) {
             Ok(()) => self.ask(kind, field, fits),
@@ -93,7 +97,8 @@ impl Walk {
         }
     }
 
-    /// A field of the last struct of this kind is asked: whether its key is new in the table, to which it is added.
+    /// A field of the last struct of this kind is asked: whether its key is new in the table, to
+    /// which it is added.
     pub fn ask_new(
         &mut self,
         kind: Kind,
@@ -101,7 +106,8 @@ impl Walk {
         table: &mut Keys,
         key: Key,
     ) -> Result<(), Stop>
-        ensures walks { Walks (asked (kind_name kind) (field_name field) (not (has_key table.old key)) ∷ []) self.old result self.new }
+        ensures walks { Walks (asked (kind_name kind) (field_name field)
+            (not (has_key table.old key)) ∷ []) self.old result self.new }
         ensures keys { OnOk result (table.new ≡ with_key table.old key) }
     {
         match table.add(key) {
@@ -118,7 +124,9 @@ impl Walk {
         table: &mut Keys,
         key: Key,
     ) -> Result<(), Stop>
-        ensures walks { Walks (begun (kind_name kind) ∷ asked (kind_name kind) (field_name field) (not (has_key table.old key)) ∷ []) self.old result self.new }
+        ensures walks { Walks (begun (kind_name kind)
+            ∷ asked (kind_name kind) (field_name field) (not (has_key table.old key)) ∷ []) self.old
+            result self.new }
         ensures keys { OnOk result (table.new ≡ with_key table.old key) }
     {
         match self.begin(kind) {

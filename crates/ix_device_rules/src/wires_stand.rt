@@ -5,9 +5,12 @@ ghost use Rattle.std.specs.List.{flat_map};
 ghost use Rattle.ix_message.specs.Indexes.{begun};
 ghost use Rattle.ix_keys.specs.Keys.{name_key, key_eq, AllDiffer};
 ghost use Rattle.ix_device_rules.specs.Named.{tile_key};
-ghost use Rattle.ix_device_rules.specs.Rules.{each_by_earlier, node_wires, wire_stands as wire_steps, has_tile, has_tile_wire, wires_stand as all_wires_stand};
+ghost use Rattle.ix_device_rules.specs.Rules.{each_by_earlier, node_wires};
+ghost use Rattle.ix_device_rules.specs.Rules.{wire_stands as wire_steps, has_tile, has_tile_wire};
+ghost use Rattle.ix_device_rules.specs.Rules.{wires_stand as all_wires_stand};
 ghost use Rattle.ix_device_rules.specs.Tables.{KnowsWires, EachKnown, SameKeys};
-ghost use Rattle.ix_device_rules.specs.TileWires.{wire_key as key_of_wire, wire_keys, node_keys, wire_is_free, is_free_of, has_wire_at};
+ghost use Rattle.ix_device_rules.specs.TileWires.{wire_key as key_of_wire, wire_keys, node_keys};
+ghost use Rattle.ix_device_rules.specs.TileWires.{wire_is_free, is_free_of, has_wire_at};
 ghost use Rattle.ix_device_rules.specs.Walks.{Walks};
 
 use crate::kinds::{Field, Kind};
@@ -103,7 +106,8 @@ fn wires_are_free(
     taken: &Keys,
     walk: &mut Walk,
 ) -> Result<(), Stop>
-    ensures { Walks (flat_map (wire_is_free wires.now taken.now) node.now.wires) walk.old result walk.new }
+    ensures { Walks (flat_map (wire_is_free wires.now taken.now) node.now.wires) walk.old result
+        walk.new }
 {
     for i in 0..node.wires.len() {
         let free = is_free(wires, taken, *node.wires.at(i));
@@ -149,7 +153,8 @@ fn node_stands(
     taken: &mut Keys,
     walk: &mut Walk,
 ) -> Result<(), Stop>
-    ensures walks { Walks (begun "Node" ∷ flat_map (wire_is_free wires.now taken.old) node.now.wires) walk.old result walk.new }
+    ensures walks { Walks (begun "Node" ∷ flat_map (wire_is_free wires.now taken.old)
+        node.now.wires) walk.old result walk.new }
     ensures taken { OnOk result (SameKeys taken.new (taken.old ++ node_keys wires.now node.now)) }
 {
     match walk.begin(Kind::Node) {

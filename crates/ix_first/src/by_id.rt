@@ -1,12 +1,14 @@
 //! First values by number.
 
-ghost use Rattle.std.specs.Prelude.{◌≡◌, ◌<◌, ℕ, None, Some, Option, nat_eq, option_map, IfOk, IsSome};
+ghost use Rattle.std.specs.Prelude.{◌≡◌, ◌<◌, ℕ, None, Some, Option, nat_eq, option_map, IfOk};
+ghost use Rattle.std.specs.Prelude.{IsSome};
 ghost use Rattle.ix_first.specs.First.{value_of, or_later};
 
 use ix_num::Memory;
 use std::alloc::Global;
 
-/// A table of values by number, below a length. It keeps the first value that is put under a number.
+/// A table of values by number, below a length. It keeps the first value that is put under a
+/// number.
 #[derive(Drop)]
 pub struct FirstById<V> {
     values: Vec<Option<V>>,
@@ -24,7 +26,8 @@ impl<V: Copy> FirstById<V> {
 
     /// Puts a value under a number that has none; the first value stays.
     pub fn put(&mut self, id: usize, value: V)
-        ensures { (i : ℕ) → value_of self.new i ≡ option_map (λ v. or_later v (nat_eq id i) value) (value_of self.old i) }
+        ensures { (i : ℕ) → value_of self.new i
+            ≡ option_map (λ v. or_later v (nat_eq id i) value) (value_of self.old i) }
     {
         if let Some(None) = self.values.get(id) {
             self.values[id] = Some(value);

@@ -28,12 +28,14 @@ impl<V> FirstByKey<V> {
 }
 
 impl<V: Copy> FirstByKey<V> {
-    /// Puts a value under a key that has none, and says whether it had none; the first value stays. The table grows, and
-    /// after `Memory` it is as before.
+    /// Puts a value under a key that has none, and says whether it had none; the first value stays.
+    /// The table grows, and after `Memory` it is as before.
     pub fn put(&mut self, key: Key, value: V) -> Result<bool, Memory>
         ensures new { IfOk result (λ new. new ≡ is_none (value_at self.old key)) }
-        ensures values { OnOk result ((q : KeySeen) → value_at self.new q ≡ or_later (value_at self.old q) (key_eq key q) value) }
-        ensures unchanged { OnErr result ((q : KeySeen) → value_at self.new q ≡ value_at self.old q) }
+        ensures values { OnOk result ((q : KeySeen)
+            → value_at self.new q ≡ or_later (value_at self.old q) (key_eq key q) value) }
+        ensures unchanged { OnErr result ((q : KeySeen)
+            → value_at self.new q ≡ value_at self.old q) }
     {
         if self.values.contains_key(&key) {
             return Ok(false);
@@ -42,7 +44,8 @@ impl<V: Copy> FirstByKey<V> {
         Ok(true)
     }
 
-    /// The first value that was put under the key, which is hashed once; none exactly where there was none.
+    /// The first value that was put under the key, which is hashed once; none exactly where there
+    /// was none.
     pub fn get(&self, key: Key) -> Option<V>
         ensures { result ≡ value_at self.now key }
     {

@@ -13,7 +13,8 @@ pub record IsFirstFree (rec : DeviceRec) (taken : List Spot) (ty : ℕ) (p : Spo
 
 -- The first cells have these places, each the first that those before it leave.
 pub record FitFirst (rec : DeviceRec) (cells : List Cell) (places : List Spot) : Type 0 where
-  pub each : (k : ℕ) (c : Cell) (p : Spot) → slice_get cells k ≡ Some c → slice_get places k ≡ Some p → IsFirstFree rec (take k places) c.ty p
+  pub each : (k : ℕ) (c : Cell) (p : Spot) → slice_get cells k ≡ Some c
+      → slice_get places k ≡ Some p → IsFirstFree rec (take k places) c.ty p
 
 -- no more cells of a type than the BELs that admit it
 abbrev pub Suffices : DeviceRec → List Cell → ℕ → Type 0
@@ -28,12 +29,14 @@ pub record IsTooFew (rec : DeviceRec) (cells : List Cell) (kind n bels : ℕ) : 
   pub cell : Cell
   pub at : slice_get cells place ≡ Some cell
   pub kind_is : kind ≡ cell.ty
-  pub earlier : (j : ℕ) (c : Cell) → j < place → slice_get cells j ≡ Some c → Suffices rec cells c.ty
+  pub earlier : (j : ℕ) (c : Cell) → j < place → slice_get cells j ≡ Some c
+      → Suffices rec cells c.ty
   pub cells_are : n ≡ cells_of kind cells
   pub bels_are : bels ≡ count_bels rec kind
   pub fewer : bels < n
 
--- No type has too few BELs, the cells before this one fit, and each BEL that admits its type is taken by them.
+-- No type has too few BELs, the cells before this one fit, and each BEL that admits its type is
+-- taken by them.
 pub record IsStuck (rec : DeviceRec) (cells : List Cell) (k : ℕ) : Type 0 where
   pub enough : AllSuffice rec cells
   pub places : List Spot

@@ -27,11 +27,14 @@ pub record HasOwnPlaces (rec : DeviceRec) (cells : List Cell) (phys : Phys) : Ty
   pub places : List Spot
   pub placements_count : length phys.placements ≡ length cells
   pub places_count : length places ≡ length cells
-  pub each : (k : ℕ) (c : Cell) (p : Spot) (m : CellPlacement) → slice_get cells k ≡ Some c → slice_get places k ≡ Some p → slice_get phys.placements k ≡ Some m → IsOnPlace rec c p m
+  pub each : (k : ℕ) (c : Cell) (p : Spot) (m : CellPlacement) → slice_get cells k ≡ Some c
+      → slice_get places k ≡ Some p → slice_get phys.placements k ≡ Some m → IsOnPlace rec c p m
   pub apart : Differ places
-  pub all_used : (k : ℕ) (p : Spot) → slice_get places k ≡ Some p → list_any (λ s. nat_eq p.site s) (used_sites places) ≡ true
+  pub all_used : (k : ℕ) (p : Spot) → slice_get places k ≡ Some p
+      → list_any (λ s. nat_eq p.site s) (used_sites places) ≡ true
   pub sites_differ : Differ (used_sites places)
   pub instances : AreInstances rec places phys.site_insts
 
 abbrev pub FitsHaveOwnPlaces : Type 0
-FitsHaveOwnPlaces = (rec : DeviceRec) (cells : List Cell) (phys : Phys) → IsFitted rec cells phys → HasOwnPlaces rec cells phys
+FitsHaveOwnPlaces = (rec : DeviceRec) (cells : List Cell) (phys : Phys) → IsFitted rec cells phys
+    → HasOwnPlaces rec cells phys

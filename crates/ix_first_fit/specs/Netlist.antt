@@ -1,5 +1,6 @@
 -- The physical netlist of cells on their places.
-use Rattle.std.specs.Prelude.{◌≡◌, ℕ, List, [], ◌∷◌, ◌++◌, length, map, slice_get, nat_eq, Option, Some, option_map, if◌then◌else◌, option_and_then}
+use Rattle.std.specs.Prelude.{◌≡◌, ℕ, List, [], ◌∷◌, ◌++◌, length, map, slice_get, nat_eq, Option}
+use Rattle.std.specs.Prelude.{Some, option_map, if◌then◌else◌, option_and_then}
 use Rattle.std.specs.List.{list_any}
 use Rattle.std.specs.List.Sorted.{IsPermutation, IsNonDecreasingBy}
 use Rattle.ix_rec.specs.declared.device.DeviceRec.{DeviceRec}
@@ -15,7 +16,8 @@ use Rattle.ix_first_fit.specs.Spots.{type_at, pins_at}
 
 -- the name of a place's BEL
 abbrev pub bel_name : DeviceRec → Spot → Option ℕ
-bel_name rec p = option_and_then (λ t. option_map (λ b. b.name) (slice_get t.bels p.bel)) (type_at rec p.site)
+bel_name rec p = option_and_then (λ t. option_map (λ b. b.name) (slice_get t.bels p.bel))
+    (type_at rec p.site)
 
 -- the names of a cell pin, the BEL, and the BEL pin
 abbrev pub pin_told : PinMapping → Option (ℕ × ℕ × ℕ)
@@ -29,7 +31,8 @@ abbrev pub pin_wanted : DeviceRec → (site bel : ℕ) → ℕ × ℕ → Option
 pin_wanted rec site bel pin = option_and_then (λ t. pin_in t bel pin) (type_at rec site)
 
 -- All pins by which a place takes a cell's type, by rising BEL pin number.
-pub record IsPinMap (rec : DeviceRec) (ty : ℕ) (p : Spot) (bel : ℕ) (pins : List PinMapping) : Type 0 where
+pub record IsPinMap (rec : DeviceRec) (ty : ℕ) (p : Spot) (bel : ℕ) (pins : List PinMapping) : Type
+    0 where
   pub given : List (ℕ × ℕ)
   pub given_is : pins_at rec ty p ≡ Some given
   pub sorted : List (ℕ × ℕ)
@@ -37,7 +40,8 @@ pub record IsPinMap (rec : DeviceRec) (ty : ℕ) (p : Spot) (bel : ℕ) (pins : 
   pub rises : IsNonDecreasingBy (λ pin. pin.1) sorted
   pub told : map pin_told pins ≡ map (λ pin. pin_wanted rec p.site bel pin) sorted
 
-pub record IsPlacement (rec : DeviceRec) (cell : Cell) (p : Spot) (placement : CellPlacement) : Type 0 where
+pub record IsPlacement (rec : DeviceRec) (cell : Cell) (p : Spot) (placement : CellPlacement) : Type
+    0 where
   pub cell_name : placement.cell_name ≡ cell.name
   pub ty : placement.ty ≡ cell.ty
   pub site : name_of_site rec p.site ≡ Some placement.site
@@ -45,9 +49,11 @@ pub record IsPlacement (rec : DeviceRec) (cell : Cell) (p : Spot) (placement : C
   pub pins : IsPinMap rec cell.ty p placement.bel placement.pin_map
 
 -- the placement of each cell on its place, in the order of the cells
-pub record ArePlacements (rec : DeviceRec) (cells : List Cell) (places : List Spot) (placements : List CellPlacement) : Type 0 where
+pub record ArePlacements (rec : DeviceRec) (cells : List Cell) (places : List Spot)
+    (placements : List CellPlacement) : Type 0 where
   pub count : length placements ≡ length places
-  pub each : (k : ℕ) (c : Cell) (p : Spot) (m : CellPlacement) → slice_get cells k ≡ Some c → slice_get places k ≡ Some p → slice_get placements k ≡ Some m → IsPlacement rec c p m
+  pub each : (k : ℕ) (c : Cell) (p : Spot) (m : CellPlacement) → slice_get cells k ≡ Some c
+      → slice_get places k ≡ Some p → slice_get placements k ≡ Some m → IsPlacement rec c p m
 
 -- sites with one more, which is added where it is new
 abbrev pub with_site : List ℕ → ℕ → List ℕ
@@ -66,14 +72,18 @@ abbrev pub instance_told : SiteInstance → Option (ℕ × ℕ)
 instance_told i = Some (i.site, i.ty)
 
 abbrev pub instance_wanted : DeviceRec → ℕ → Option (ℕ × ℕ)
-instance_wanted rec site = option_and_then (λ name. option_map (λ t. (name, t.name)) (type_at rec site)) (name_of_site rec site)
+instance_wanted rec site = option_and_then (λ name.
+    option_map (λ t. (name, t.name)) (type_at rec site)) (name_of_site rec site)
 
 -- one instance of each used site, as its own type, in the order of first use
 abbrev pub AreInstances : DeviceRec → List Spot → List SiteInstance → Type 0
-AreInstances rec places instances = map instance_told instances ≡ map (λ site. instance_wanted rec site) (used_sites places)
+AreInstances rec places instances = map instance_told instances
+    ≡ map (λ site. instance_wanted rec site) (used_sites places)
 
--- The netlist has the device's name, the placements and the site instances, and no nets and no properties.
-pub record IsNetlist (rec : DeviceRec) (cells : List Cell) (places : List Spot) (phys : Phys) : Type 0 where
+-- The netlist has the device's name, the placements and the site instances, and no nets and no
+-- properties.
+pub record IsNetlist (rec : DeviceRec) (cells : List Cell) (places : List Spot) (phys : Phys) : Type
+    0 where
   pub part : phys.part ≡ rec.name
   pub placements : ArePlacements rec cells places phys.placements
   pub nets : phys.nets ≡ []

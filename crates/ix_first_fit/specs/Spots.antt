@@ -1,5 +1,7 @@
 -- The BELs of sites, and which of them admit a cell type.
-use Rattle.std.specs.Prelude.{◌≡◌, ◌<◌, ℕ, zero, suc, ◌+◌, List, length, slice_get, Bool, ◌&&◌, nat_eq, Option, is_some, option_map, unwrap_or, if◌then◌else◌, option_and_then, ◌⊎◌}
+use Rattle.std.specs.Prelude.{◌≡◌, ◌<◌, ℕ, zero, suc, ◌+◌, List, length, slice_get, Bool, ◌&&◌}
+use Rattle.std.specs.Prelude.{nat_eq, Option, is_some, option_map, unwrap_or, if◌then◌else◌}
+use Rattle.std.specs.Prelude.{option_and_then, ◌⊎◌}
 use Rattle.std.specs.List.{list_any, count_by}
 use Rattle.ix_rec.specs.declared.device.DeviceRec.{DeviceRec}
 use Rattle.ix_rec.specs.declared.device.SiteType.{SiteType}

@@ -18,11 +18,13 @@ AreTaken places table = (p : Spot) → is_some (value_at table (spot_key p)) ≡
 
 -- each place before this one that admits the type is taken
 abbrev pub NoneBefore : DeviceRec → List Spot → ℕ → Spot → Type 0
-NoneBefore rec taken ty p = (q : Spot) → IsBefore q p → admits rec ty q ≡ true → is_taken taken q ≡ true
+NoneBefore rec taken ty p = (q : Spot) → IsBefore q p → admits rec ty q ≡ true
+    → is_taken taken q ≡ true
 
 -- each BEL of a site from this number on, and below the other, that admits the type is taken
 abbrev pub NoneWithin : DeviceRec → List Spot → (ty site first last : ℕ) → Type 0
-NoneWithin rec taken ty site first last = (b : ℕ) → first ≤ b → b < last → admits rec ty (spot site b) ≡ true → is_taken taken (spot site b) ≡ true
+NoneWithin rec taken ty site first last = (b : ℕ) → first ≤ b → b < last
+    → admits rec ty (spot site b) ≡ true → is_taken taken (spot site b) ≡ true
 
 pub record IsFreeBel (rec : DeviceRec) (taken : List Spot) (ty site first b : ℕ) : Type 0 where
   pub from : first ≤ b
@@ -33,7 +35,8 @@ pub record IsFreeBel (rec : DeviceRec) (taken : List Spot) (ty site first b : �
 -- the first free BEL of a site from this number on
 abbrev pub IsFirstBel : DeviceRec → List Spot → (ty site first : ℕ) → Option ℕ → Type 0
 IsFirstBel rec taken ty site first (Some b) = IsFreeBel rec taken ty site first b
-IsFirstBel rec taken ty site first None = (b : ℕ) → first ≤ b → admits rec ty (spot site b) ≡ true → is_taken taken (spot site b) ≡ true
+IsFirstBel rec taken ty site first None = (b : ℕ) → first ≤ b → admits rec ty (spot site b) ≡ true
+    → is_taken taken (spot site b) ≡ true
 
 -- the first free place; none where each that admits the type is taken
 abbrev pub IsFirstSpot : DeviceRec → List Spot → ℕ → Option Spot → Type 0

@@ -34,7 +34,8 @@ impl<V: Copy> ByType<V> {
 
     /// Gives a type another value.
     pub(crate) fn set(&mut self, ty: NameId, value: V) -> Result<(), Memory>
-        ensures { OnOk result ((q : ℕ) → of_type self.new q ≡ (if nat_eq ty q then Some value else of_type self.old q)) }
+        ensures { OnOk result ((q : ℕ) → of_type self.new q
+            ≡ (if nat_eq ty q then Some value else of_type self.old q)) }
     {
         self.values.insert(ty.get(), value)?;
         Ok(())

@@ -1,6 +1,7 @@
 //! How many cells a type has, and how many BELs admit it.
 
-ghost use Rattle.std.specs.Prelude.{◌≡◌, ◌<◌, ℕ, Some, length, slice_get, unwrap_or, IfOk, IfSome, OnOk, IfErr};
+ghost use Rattle.std.specs.Prelude.{◌≡◌, ◌<◌, ℕ, Some, length, slice_get, unwrap_or, IfOk, IfSome};
+ghost use Rattle.std.specs.Prelude.{OnOk, IfErr};
 ghost use Rattle.ix_device.specs.Lookups.{type_of_site};
 ghost use Rattle.ix_first_fit.specs.ByTypes.{of_type};
 ghost use Rattle.ix_first_fit.specs.Spots.{takers_at, count_bels as count_of_bels, cells_of};
@@ -19,7 +20,8 @@ use std::alloc::Global;
 
 // How many cells each type has.
 fn cell_counts(alloc: Global, cells: &Items<Cell>) -> Result<ByType<u64>, Memory>
-    ensures { IfOk result (λ counts. (ty : ℕ) → unwrap_or (of_type counts ty) 0 ≡ cells_of ty cells.now) }
+    ensures { IfOk result (λ counts. (ty : ℕ)
+        → unwrap_or (of_type counts ty) 0 ≡ cells_of ty cells.now) }
 {
     let mut counts = ByType::new(alloc);
     for i in 0..cells.len() {
@@ -33,7 +35,8 @@ fn cell_counts(alloc: Global, cells: &Items<Cell>) -> Result<ByType<u64>, Memory
 /// How many BELs a site type has.
 pub(crate) fn bels_of(rec: &DeviceRec, t: SiteTypeId) -> Result<u32, Memory>
     requires { t < length rec.now.site_type_list }
-    ensures { IfOk result (λ n. IfSome (slice_get rec.now.site_type_list t) (λ ty. n ≡ length ty.bels)) }
+    ensures { IfOk result (λ n. IfSome (slice_get rec.now.site_type_list t) (λ ty. n
+        ≡ length ty.bels)) }
 {
     number_of(rec.site_type_list.at(t.get() as usize).bels.len())
 }
@@ -41,7 +44,8 @@ pub(crate) fn bels_of(rec: &DeviceRec, t: SiteTypeId) -> Result<u32, Memory>
 // How many BELs admit a cell type in each site of a type.
 fn takers_of(device: &Device, ty: NameId, t: SiteTypeId) -> Result<u32, Memory>
     requires { t < length device.now.site_type_list }
-    ensures { IfOk result (λ n. (site : ℕ) → type_of_site device.now site ≡ Some t → n ≡ takers_at device.now ty site) }
+    ensures { IfOk result (λ n. (site : ℕ) → type_of_site device.now site ≡ Some t
+        → n ≡ takers_at device.now ty site) }
 {
     let mut count = 0;
     for bel in 0..bels_of(device.rec(), t)? {
@@ -54,7 +58,8 @@ fn takers_of(device: &Device, ty: NameId, t: SiteTypeId) -> Result<u32, Memory>
 
 // The same for each site type.
 fn takers(alloc: Global, device: &Device, ty: NameId) -> Result<Items<u32>, Memory>
-    ensures { IfOk result (λ all. (site t : ℕ) → type_of_site device.now site ≡ Some t → slice_get all t ≡ Some (takers_at device.now ty site)) }
+    ensures { IfOk result (λ all. (site t : ℕ) → type_of_site device.now site ≡ Some t
+        → slice_get all t ≡ Some (takers_at device.now ty site)) }
 {
     let mut all = Items::new(alloc);
     for t in 0..device.rec().site_type_list.len() {

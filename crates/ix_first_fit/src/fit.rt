@@ -42,7 +42,8 @@ fn first_bel(
     Ok(None)
 }
 
-// The first place that is free and admits a cell type. Those before the start are known to be taken.
+// The first place that is free and admits a cell type. Those before the start are known to be
+// taken.
 fn first_spot(
     device: &Device,
     taken: &Places,
@@ -63,15 +64,16 @@ fn first_spot(
     Ok(None)
 }
 
-// The first place that is free and admits a cell type, sought from where the last cell of the type was placed: taken
-// places stay taken.
+// The first place that is free and admits a cell type, sought from where the last cell of the type
+// was placed: taken places stay taken.
 fn next_spot(
     device: &Device,
     taken: &Places,
     last: &ByType<Spot>,
     ty: NameId,
 ) -> Result<Option<Spot>, Memory>
-    requires { (q : ℕ) (p : SpotSeen) → of_type last.now q ≡ Some p → NoneBefore device.now taken.now q p }
+    requires { (q : ℕ) (p : SpotSeen) → of_type last.now q ≡ Some p
+        → NoneBefore device.now taken.now q p }
     ensures { IfOk result (IsFirstSpot device.now taken.now ty) }
 {
     match last.get(ty) {

@@ -1,4 +1,5 @@
-//! Placing cells that have no nets: each cell, in order, takes the first BEL that is free and admits it.
+//! Placing cells that have no nets: each cell, in order, takes the first BEL that is free and
+//! admits it.
 #![tactic(auto)]
 
 mod by_type;

@@ -5,7 +5,8 @@ ghost use Rattle.std.specs.List.{AllByRecursion};
 ghost use Rattle.ix_device.specs.Lookups.{sites_of};
 ghost use Rattle.ix_first_fit.specs.Spots.{admits};
 ghost use Rattle.ix_first_fit.specs.Fit.{FitFirst};
-ghost use Rattle.ix_first_fit.specs.Netlist.{IsPlacement, ArePlacements, AreInstances, IsNetlist, instance_told, instance_wanted};
+ghost use Rattle.ix_first_fit.specs.Netlist.{IsPlacement, ArePlacements, AreInstances, IsNetlist};
+ghost use Rattle.ix_first_fit.specs.Netlist.{instance_told, instance_wanted};
 
 use crate::cell::{Cell, Spot};
 use crate::pin_map::pin_map;

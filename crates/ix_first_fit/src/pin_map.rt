@@ -48,7 +48,8 @@ fn named_pins(
     bel: NameId,
     pins: &Items<(NameId, BelPinId)>,
 ) -> Result<Items<PinMapping>, Memory>
-    ensures { IfOk result (λ named. map pin_told named ≡ map (λ pin. pin_in ty.now bel pin) pins.now) }
+    ensures { IfOk result (λ named. map pin_told named
+        ≡ map (λ pin. pin_in ty.now bel pin) pins.now) }
 {
     let mut named = Items::new(alloc);
     for i in 0..pins.len() {

@@ -17,17 +17,19 @@ use ix_device::Device;
 use ix_rec::{Items, Phys};
 use std::alloc::Global;
 
-/// The physical netlist of cells that have no nets: each cell, in order, is on the first BEL, by site and by BEL number,
-/// that is free and admits its type.
+/// The physical netlist of cells that have no nets: each cell, in order, is on the first BEL, by
+/// site and by BEL number, that is free and admits its type.
 ///
 /// # Errors
 ///
-/// `TooFewBels` exactly where a type has more cells than the BELs that admit it, for the first such type by first cell;
-/// `NoSite` exactly where no type has, and first fit stops at this cell; `Memory`.
+/// `TooFewBels` exactly where a type has more cells than the BELs that admit it, for the first such
+/// type by first cell; `NoSite` exactly where no type has, and first fit stops at this cell;
+/// `Memory`.
 pub fn first_fit(alloc: Global, device: &Device, cells: &Items<Cell>) -> Result<Phys, FitFault>
     ensures fitted { IfOk result (IsFitted device.now cells.now) }
     ensures err { IfErr result (IsFitFault device.now cells.now) }
-    ensures named { (names : List Text) → DeviceNamed (length names) device.now → AllByRecursion (CellNamed (length names)) cells.now → IfOk result (IsPhysNamed names) }
+    ensures named { (names : List Text) → DeviceNamed (length names) device.now
+        → AllByRecursion (CellNamed (length names)) cells.now → IfOk result (IsPhysNamed names) }
 {
     match check_counts(alloc, device, cells) {
         Err(fault) => Err(fault),

@@ -1,11 +1,12 @@
--- A logical netlist without ports, nets and properties: each pointer to them is zero or past its section. A pointer to an
--- empty list isn't zero. Slots are those of the message's structs.
+-- A logical netlist without ports, nets and properties: each pointer to them is zero or past its
+-- section. A pointer to an empty list isn't zero. Slots are those of the message's structs.
 use Rattle.std.specs.Prelude.{ℕ, zero, suc, Bool, true, false, not, ◌&&◌, Result, Ok, Err}
 use Rattle.ix_num.specs.declared.fault.FrameFault.{FrameFault}
 use Rattle.ix_frame.specs.Result.{◌>>=◌}
 use Rattle.ix_frame.specs.Segments.{Segments}
 use Rattle.ix_frame.specs.Target.{Object, Elements}
-use Rattle.ix_frame.specs.Objects.{has_pointer, root_of, whole_budget, struct_at, elements_at, element_of}
+use Rattle.ix_frame.specs.Objects.{has_pointer, root_of, whole_budget, struct_at, elements_at}
+use Rattle.ix_frame.specs.Objects.{element_of}
 
 -- the structs of a netlist that have such pointers
 pub record Parts : Type 0 where
@@ -23,7 +24,13 @@ parts_of all = do
   declarations ← elements_at root.0 4 top.1
   instances ← elements_at root.0 6 declarations.1
   cells ← elements_at root.0 7 instances.1
-  Ok (record { root = root.0; top = top.0; declarations = declarations.0; instances = instances.0; cells = cells.0 })
+  Ok (record {
+    root = root.0;
+    top = top.0;
+    declarations = declarations.0;
+    instances = instances.0;
+    cells = cells.0;
+  })
 
 -- none of the first n structs of a list has a pointer in this slot
 unfoldable pub none_first : ℕ → Elements → ℕ → Bool
@@ -33,8 +40,8 @@ none_first slot list (suc n) = none_first slot list n && not (has_pointer (eleme
 abbrev pub none_has : ℕ → Elements → Bool
 none_has slot list = none_first slot list list.count
 
--- The root has properties in slot 1 and ports in slot 5; an instance has properties in slot 0, a declaration ports in slot 0,
--- and a cell nets in slot 1.
+-- The root has properties in slot 1 and ports in slot 5; an instance has properties in slot 0, a
+-- declaration ports in slot 0, and a cell nets in slot 1.
 abbrev pub are_bare : Parts → Bool
 are_bare p =
     not (has_pointer p.root 1) && not (has_pointer p.root 5) && not (has_pointer p.top 0)

@@ -17,5 +17,7 @@ abbrev pub plain_type : List Text → DeviceRec → Text → Option ℕ
 plain_type names rec text = kept (is_plain_type rec) (number_of names text)
 
 -- the same of each declaration
-abbrev pub plain_types : List Text → DeviceRec → List Text → List RawCellDeclaration → List (Option ℕ)
-plain_types names rec table declared = map (λ d. plain_type names rec (declared_name table (cell_declaration_numbers d))) declared
+abbrev pub plain_types : List Text → DeviceRec → List Text → List RawCellDeclaration
+    → List (Option ℕ)
+plain_types names rec table declared = map (λ d.
+    plain_type names rec (declared_name table (cell_declaration_numbers d))) declared

@@ -63,7 +63,8 @@ fn are_bare(parts: &Parts<'_>) -> bool
         && none_has(cell::NETS, &parts.cells)
 }
 
-/// Whether the netlist of a frame has neither ports nor nets nor properties, and no pointer to them that isn't zero.
+/// Whether the netlist of a frame has neither ports nor nets nor properties, and no pointer to them
+/// that isn't zero.
 #[tactic(auto, unfolding(crate::specs::Bare::is_bare))]
 pub(crate) fn is_bare(frame: &Frame<'_>) -> bool
     ensures { result ≡ is_bare (segments_of frame.now) }

@@ -1,6 +1,7 @@
 //! The cells of a netlist.
 
-ghost use Rattle.std.specs.Prelude.{◌≡◌, ℕ, ◌+◌, ◌-◌, ◌^◌, ◌<◌, ◌≤◌, is_some, map, length, nat_lt, true, IfOk, IfSome};
+ghost use Rattle.std.specs.Prelude.{◌≡◌, ℕ, ◌+◌, ◌-◌, ◌^◌, ◌<◌, ◌≤◌, is_some, map, length, nat_lt};
+ghost use Rattle.std.specs.Prelude.{true, IfOk, IfSome};
 ghost use Rattle.std.specs.List.{list_all};
 ghost use Rattle.ix_strings.specs.Names.{KeepsNumbers};
 ghost use Rattle.ix_logic_raw.specs.Raw.{netlist_numbers};
@@ -36,7 +37,8 @@ fn leaf_type(raw: &RawNetlist<'_>, types: &Items<Option<NameId>>, i: u32) -> Opt
 fn leaf_name<'b>(table: &Items<&'b str>, raw: &RawNetlist<'_>, i: u32) -> &'b str
     requires fit { raw_fits (length table.now) raw.now ≡ true }
     requires place { i < length raw.now.inst_list }
-    ensures { result.now ≡ instance_name (map (λ t. t.now) table.now) (instance_at (netlist_numbers raw.now) i) }
+    ensures { result.now ≡ instance_name (map (λ t. t.now) table.now)
+        (instance_at (netlist_numbers raw.now) i) }
 {
     *table.at(raw.inst_list.at(i as usize).name as usize)
 }
@@ -53,8 +55,10 @@ fn cell_at(
     requires types { length types.now ≡ length raw.now.cell_decls }
     requires place { i < length raw.now.inst_list }
     requires room { length names.old < 2 ^ 32 - 1 }
-    ensures some { IfOk result (λ found. is_some found ≡ is_some (leaf_type types.now (netlist_numbers raw.now) i)) }
-    ensures leaf { IfOk result (λ found. IfSome found (IsLeaf names.new (map (λ t. t.now) table.now) types.now (netlist_numbers raw.now) i)) }
+    ensures some { IfOk result (λ found. is_some found
+        ≡ is_some (leaf_type types.now (netlist_numbers raw.now) i)) }
+    ensures leaf { IfOk result (λ found. IfSome found
+        (IsLeaf names.new (map (λ t. t.now) table.now) types.now (netlist_numbers raw.now) i)) }
     ensures keeps { KeepsNumbers names.old names.new }
     ensures most { length names.new ≤ length names.old + 1 }
 {
@@ -67,7 +71,8 @@ fn cell_at(
     }
 }
 
-/// The cells that these instances are, their names added to the names; none where one of them can't be placed.
+/// The cells that these instances are, their names added to the names; none where one of them can't
+/// be placed.
 pub(crate) fn add_cells(
     alloc: Global,
     names: &mut Names,
@@ -80,8 +85,11 @@ pub(crate) fn add_cells(
     requires types { length types.now ≡ length raw.now.cell_decls }
     requires places { list_all (λ i. nat_lt i (length raw.now.inst_list)) insts.now ≡ true }
     requires room { length names.old + length insts.now < 2 ^ 32 - 1 }
-    ensures some { IfOk result (λ found. is_some found ≡ list_all (λ i. is_some (leaf_type types.now (netlist_numbers raw.now) i)) insts.now) }
-    ensures leaves { IfOk result (λ found. IfSome found (AreLeaves names.new (map (λ t. t.now) table.now) types.now (netlist_numbers raw.now) insts.now)) }
+    ensures some { IfOk result (λ found. is_some found
+        ≡ list_all (λ i. is_some (leaf_type types.now (netlist_numbers raw.now) i)) insts.now) }
+    ensures leaves { IfOk result (λ found. IfSome found
+        (AreLeaves names.new (map (λ t. t.now) table.now) types.now (netlist_numbers raw.now)
+        insts.now)) }
     ensures keeps { KeepsNumbers names.old names.new }
     ensures most { length names.new ≤ length names.old + length insts.now }
 {

@@ -4,7 +4,8 @@ ghost use Rattle.std.specs.Prelude.{◌≡◌, ◌&&◌, length, map, is_none, n
 ghost use Rattle.std.specs.List.{list_all};
 ghost use Rattle.ix_message.specs.Netlist.{netlist};
 ghost use Rattle.ix_message.specs.Indexes.{first_bad};
-ghost use Rattle.ix_logic_raw.specs.Raw.{cell_instance_numbers, cell_declaration_numbers, cell_numbers, netlist_numbers};
+ghost use Rattle.ix_logic_raw.specs.Raw.{cell_instance_numbers, cell_declaration_numbers};
+ghost use Rattle.ix_logic_raw.specs.Raw.{cell_numbers, netlist_numbers};
 ghost use Rattle.ix_first_form.specs.Design.{is_empty, has_no_nets};
 ghost use Rattle.ix_first_form.specs.Numbers.{instance_fits, declaration_fits, cell_fits};
 ghost use Rattle.ix_first_form.specs.RawWords.{raw_has_no_nets, raw_numbers_fit};
@@ -28,7 +29,8 @@ fn instance_fits(n: &Counts, instance: &RawCellInstance) -> bool
 }
 
 fn declarations_fit(n: &Counts, declarations: &Items<RawCellDeclaration>) -> bool
-    ensures { result ≡ list_all (λ d. declaration_fits (counts_seen n.now) (cell_declaration_numbers d)) declarations.now }
+    ensures { result ≡ list_all (λ d. declaration_fits (counts_seen n.now)
+        (cell_declaration_numbers d)) declarations.now }
 {
     declarations
         .as_slice()
@@ -37,7 +39,8 @@ fn declarations_fit(n: &Counts, declarations: &Items<RawCellDeclaration>) -> boo
 }
 
 fn instances_fit(n: &Counts, instances: &Items<RawCellInstance>) -> bool
-    ensures { result ≡ list_all (λ x. instance_fits (counts_seen n.now) (cell_instance_numbers x)) instances.now }
+    ensures { result ≡ list_all (λ x. instance_fits (counts_seen n.now) (cell_instance_numbers x))
+        instances.now }
 {
     instances.as_slice().iter().all(|x| instance_fits(n, x))
 }

@@ -1,13 +1,15 @@
 //! Reading a design in first form.
 
-ghost use Rattle.std.specs.Prelude.{◌≡◌, ◌+◌, ◌-◌, ◌^◌, ◌<◌, ◌≤◌, ◌&&◌, is_some, map, length, nat_eq, nat_lt, true, IfOk, IfSome};
+ghost use Rattle.std.specs.Prelude.{◌≡◌, ◌+◌, ◌-◌, ◌^◌, ◌<◌, ◌≤◌, ◌&&◌, is_some, map, length};
+ghost use Rattle.std.specs.Prelude.{nat_eq, nat_lt, true, IfOk, IfSome};
 ghost use Rattle.std.specs.List.{list_all};
 ghost use Rattle.ix_frame.specs.Views.{segments_of};
 ghost use Rattle.ix_strings.specs.Names.{KeepsNumbers};
 ghost use Rattle.ix_logic_raw.specs.Raw.{netlist_numbers};
 ghost use Rattle.ix_first_form.specs.Design.{has_no_nets};
 ghost use Rattle.ix_first_form.specs.FirstCells.{cell_seen, AreFirst};
-ghost use Rattle.ix_first_form.specs.FirstForm.{has_top_alone, top_instances, cell_texts, cells_of, are_leaves, is_flat, is_first_form, cells_in};
+ghost use Rattle.ix_first_form.specs.FirstForm.{has_top_alone, top_instances, cell_texts, cells_of};
+ghost use Rattle.ix_first_form.specs.FirstForm.{are_leaves, is_flat, is_first_form, cells_in};
 ghost use Rattle.ix_first_form.specs.RawWords.{raw_fits, raw_has_top_alone};
 
 use crate::bare::is_bare;
@@ -26,8 +28,8 @@ use std::alloc::Global;
 // A design has no more cells.
 const MOST_CELLS: usize = 1 << 22;
 
-// The cells that these instances are, where they differ in their names; none where they don't, or one of them can't be
-// placed, or there are too many.
+// The cells that these instances are, where they differ in their names; none where they don't, or
+// one of them can't be placed, or there are too many.
 fn take_leaves(
     alloc: Global,
     names: &mut Names,
@@ -39,8 +41,11 @@ fn take_leaves(
     requires fit { raw_fits (length table.now) raw.now ≡ true }
     requires places { list_all (λ i. nat_lt i (length raw.now.inst_list)) insts.now ≡ true }
     requires room { length names.old + 2 ^ 22 < 2 ^ 32 - 1 }
-    ensures some { IfOk result (λ found. is_some found ≡ are_leaves names.old device.now (map (λ t. t.now) table.now) (netlist_numbers raw.now) insts.now) }
-    ensures cells { IfOk result (λ found. IfSome found (λ cells. map (cell_seen names.new) cells ≡ map (cell_texts (map (λ t. t.now) table.now) (netlist_numbers raw.now)) insts.now)) }
+    ensures some { IfOk result (λ found. is_some found
+        ≡ are_leaves names.old device.now (map (λ t. t.now) table.now) (netlist_numbers raw.now)
+        insts.now) }
+    ensures cells { IfOk result (λ found. IfSome found (λ cells. map (cell_seen names.new) cells
+        ≡ map (cell_texts (map (λ t. t.now) table.now) (netlist_numbers raw.now)) insts.now)) }
     ensures first { IfOk result (λ found. IfSome found (AreFirst device.now names.new)) }
     ensures keeps { KeepsNumbers names.old names.new }
     ensures most { length names.new ≤ length names.old + 2 ^ 22 }
@@ -81,8 +86,11 @@ fn take_cells(
     requires fit { raw_fits (length table.now) raw.now ≡ true }
     requires alone { raw_has_top_alone raw.now ≡ true }
     requires room { length names.old + 2 ^ 22 < 2 ^ 32 - 1 }
-    ensures some { IfOk result (λ found. is_some found ≡ are_leaves names.old device.now (map (λ t. t.now) table.now) (netlist_numbers raw.now) (top_instances (netlist_numbers raw.now))) }
-    ensures cells { IfOk result (λ found. IfSome found (λ cells. map (cell_seen names.new) cells ≡ cells_of (map (λ t. t.now) table.now) (netlist_numbers raw.now))) }
+    ensures some { IfOk result (λ found. is_some found
+        ≡ are_leaves names.old device.now (map (λ t. t.now) table.now) (netlist_numbers raw.now)
+        (top_instances (netlist_numbers raw.now))) }
+    ensures cells { IfOk result (λ found. IfSome found (λ cells. map (cell_seen names.new) cells
+        ≡ cells_of (map (λ t. t.now) table.now) (netlist_numbers raw.now))) }
     ensures first { IfOk result (λ found. IfSome found (AreFirst device.now names.new)) }
     ensures keeps { KeepsNumbers names.old names.new }
     ensures most { length names.new ≤ length names.old + 2 ^ 22 }
@@ -118,8 +126,11 @@ fn first_form(
     raw: &RawNetlist<'_>,
 ) -> Result<Option<Items<Cell>>, Memory>
     requires { length names.old + 2 ^ 22 < 2 ^ 32 - 1 }
-    ensures some { IfOk result (λ found. is_some found ≡ (has_no_nets (netlist_numbers raw.now) && is_flat names.old device.now (map (λ t. t.now) table.now) (netlist_numbers raw.now))) }
-    ensures cells { IfOk result (λ found. IfSome found (λ cells. map (cell_seen names.new) cells ≡ cells_of (map (λ t. t.now) table.now) (netlist_numbers raw.now))) }
+    ensures some { IfOk result (λ found. is_some found
+        ≡ (has_no_nets (netlist_numbers raw.now)
+        && is_flat names.old device.now (map (λ t. t.now) table.now) (netlist_numbers raw.now))) }
+    ensures cells { IfOk result (λ found. IfSome found (λ cells. map (cell_seen names.new) cells
+        ≡ cells_of (map (λ t. t.now) table.now) (netlist_numbers raw.now))) }
     ensures first { IfOk result (λ found. IfSome found (AreFirst device.now names.new)) }
     ensures keeps { KeepsNumbers names.old names.new }
     ensures most { length names.new ≤ length names.old + 2 ^ 22 }
@@ -136,13 +147,14 @@ fn first_form(
     take_cells(alloc, names, device, table, raw)
 }
 
-/// The cells of a design in first form for this device, each by its name and its type, in their order; none exactly where
-/// a frame's design has no reading or isn't in first form. A design in first form has neither ports nor nets nor
-/// properties, and cells of its top alone, at most 2^22, of different names, each of a type that stands in the device's
-/// cell-to-BEL map and is neither a LUT type nor that of constant cells.
+/// The cells of a design in first form for this device, each by its name and its type, in their
+/// order; none exactly where a frame's design has no reading or isn't in first form. A design in
+/// first form has neither ports nor nets nor properties, and cells of its top alone, at most 2^22,
+/// of different names, each of a type that stands in the device's cell-to-BEL map and is neither a
+/// LUT type nor that of constant cells.
 ///
-/// The cells' names are added to the names, at most 2^22, also where there are none, and each name keeps its number.
-/// `Memory` is its only error.
+/// The cells' names are added to the names, at most 2^22, also where there are none, and each name
+/// keeps its number. `Memory` is its only error.
 #[tactic(auto, unfolding(crate::specs::FirstForm::is_first_form, crate::specs::FirstForm::cells_in))]
 pub fn read_first_form(
     alloc: Global,
@@ -151,8 +163,10 @@ pub fn read_first_form(
     names: &mut Names,
 ) -> Result<Option<Items<Cell>>, Memory>
     requires { length names.old + 2 ^ 22 < 2 ^ 32 - 1 }
-    ensures some { IfOk result (λ found. is_some found ≡ is_first_form names.old device.now (segments_of frame.now)) }
-    ensures cells { IfOk result (λ found. IfSome found (λ cells. map (cell_seen names.new) cells ≡ cells_in (segments_of frame.now))) }
+    ensures some { IfOk result (λ found. is_some found
+        ≡ is_first_form names.old device.now (segments_of frame.now)) }
+    ensures cells { IfOk result (λ found. IfSome found (λ cells. map (cell_seen names.new) cells
+        ≡ cells_in (segments_of frame.now))) }
     ensures first { IfOk result (λ found. IfSome found (AreFirst device.now names.new)) }
     ensures keeps { KeepsNumbers names.old names.new }
     ensures most { length names.new ≤ length names.old + 2 ^ 22 }

@@ -18,7 +18,8 @@ use std::alloc::Global;
 
 /// The cell types of the cell-to-BEL map.
 pub(crate) fn mapped_types(alloc: Global, rec: &DeviceRec) -> Result<FirstByKey<()>, Memory>
-    ensures { IfOk result (λ table. (cell : ℕ) → is_some (value_at table (name_key cell)) ≡ is_mapped rec.now cell) }
+    ensures { IfOk result (λ table. (cell : ℕ)
+        → is_some (value_at table (name_key cell)) ≡ is_mapped rec.now cell) }
 {
     let mut table = FirstByKey::new(alloc);
     for i in 0..rec.cell_bel_map.len() {
@@ -39,7 +40,8 @@ fn is_constant(constants: &Option<Constants>, cell: NameId) -> bool
 
 // Whether cells of a type can be placed by the cell-to-BEL map alone.
 fn is_plain_type(device: &Device, mapped: &FirstByKey<()>, cell: NameId) -> bool
-    requires { (cell : ℕ) → is_some (value_at mapped.now (name_key cell)) ≡ is_mapped device.now cell }
+    requires { (cell : ℕ) → is_some (value_at mapped.now (name_key cell))
+        ≡ is_mapped device.now cell }
     ensures { result ≡ is_plain_type device.now cell }
 {
     mapped.get(Key::of_name(cell.get())).is_some()
@@ -49,7 +51,8 @@ fn is_plain_type(device: &Device, mapped: &FirstByKey<()>, cell: NameId) -> bool
 
 // The name of such a type, by its text.
 fn plain_type(names: &Names, device: &Device, mapped: &FirstByKey<()>, text: &str) -> Option<NameId>
-    requires { (cell : ℕ) → is_some (value_at mapped.now (name_key cell)) ≡ is_mapped device.now cell }
+    requires { (cell : ℕ) → is_some (value_at mapped.now (name_key cell))
+        ≡ is_mapped device.now cell }
     ensures { result ≡ plain_type names.now device.now text.now }
 {
     match names.find(text) {
@@ -64,7 +67,8 @@ fn plain_type(names: &Names, device: &Device, mapped: &FirstByKey<()>, text: &st
     }
 }
 
-/// Of each declaration, the name of its type where cells of it can be placed by the cell-to-BEL map alone.
+/// Of each declaration, the name of its type where cells of it can be placed by the cell-to-BEL map
+/// alone.
 pub(crate) fn plain_types(
     alloc: Global,
     names: &Names,
@@ -73,9 +77,11 @@ pub(crate) fn plain_types(
     table: &Items<&str>,
     declarations: &Items<RawCellDeclaration>,
 ) -> Result<Items<Option<NameId>>, Memory>
-    requires mapped { (cell : ℕ) → is_some (value_at mapped.now (name_key cell)) ≡ is_mapped device.now cell }
+    requires mapped { (cell : ℕ) → is_some (value_at mapped.now (name_key cell))
+        ≡ is_mapped device.now cell }
     requires within { list_all (λ d. nat_lt d.name (length table.now)) declarations.now ≡ true }
-    ensures { IfOk result (λ types. types ≡ plain_types names.now device.now (map (λ t. t.now) table.now) declarations.now) }
+    ensures { IfOk result (λ types. types ≡ plain_types names.now device.now
+        (map (λ t. t.now) table.now) declarations.now) }
 {
     let mut types = Items::with_capacity(alloc, declarations.len())?;
     for i in 0..declarations.len() {

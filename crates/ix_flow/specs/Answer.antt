@@ -1,5 +1,7 @@
--- What `flow` answers to the contents of its two files, where nothing fails and memory doesn't run out.
-use Rattle.std.specs.Prelude.{◌≡◌, ◌⊎◌, ℕ, ◌^◌, true, false, nat_lt, List, [], ◌∷◌, length, map, slice_get, Result, Ok, Err, Some, None, if◌then◌else◌}
+-- What `flow` answers to the contents of its two files, where nothing fails and memory doesn't run
+-- out.
+use Rattle.std.specs.Prelude.{◌≡◌, ◌⊎◌, ℕ, ◌^◌, true, false, nat_lt, List, [], ◌∷◌, length, map}
+use Rattle.std.specs.Prelude.{slice_get, Result, Ok, Err, Some, None, if◌then◌else◌}
 use Rattle.ix_num.specs.declared.fault.FrameFault.{FrameFault}
 use Rattle.ix_num.specs.declared.fault.FrameRule.{FrameRule}
 use Rattle.ix_num.specs.declared.fault.FrameRule.TheVariants as framed_rule
@@ -12,7 +14,8 @@ use Rattle.ix_rec.specs.declared.place.File.TheVariants.{Device, Design}
 use Rattle.ix_rec.specs.declared.place.Place.{Place}
 use Rattle.ix_rec.specs.declared.place.Place.TheVariants as places
 use Rattle.ix_report.specs.declared.report.Report as reports
-use Rattle.ix_report.specs.declared.report.Report.TheVariants.{Implemented, Bad, NotBuilt, TooLong, TooFewBels, NoSite}
+use Rattle.ix_report.specs.declared.report.Report.TheVariants.{Implemented, Bad, NotBuilt, TooLong}
+use Rattle.ix_report.specs.declared.report.Report.TheVariants.{TooFewBels, NoSite}
 use Rattle.ix_frame.specs.Segments.{Segments, segments}
 use Rattle.ix_strings.specs.Names.{AllDiffer, KeepsNumbers}
 use Rattle.ix_message.specs.Shape.{Text, Value}
@@ -58,15 +61,16 @@ opened None = Err F9
 
 abbrev pub opens : File → Content → Step Segments
 opens file content (Ok all) = opened content ≡ Ok all
-opens file content (Err report) = (rule : Rule) × (opened content ≡ Err rule) × (report ≡ Bad file rule places.File)
+opens file content (Err report) = (rule : Rule) × (opened content ≡ Err rule)
+    × (report ≡ Bad file rule places.File)
 
 -- A device, over a table of names.
 pub record NamedDevice : Type 0 where
   pub names : List Text
   pub rec : DeviceRec
 
--- A device was read from segments. Its names are numbers of the table, in which no two are alike: so equal texts have equal
--- numbers, the empty text too.
+-- A device was read from segments. Its names are numbers of the table, in which no two are alike:
+-- so equal texts have equal numbers, the empty text too.
 pub record IsRead (all : Segments) (d : NamedDevice) : Type 0 where
   pub differ : AllDiffer d.names
   pub reads : reading_in_segments device all ≡ Ok (device_record d.names d.rec)
@@ -76,7 +80,8 @@ pub record IsValid (all : Segments) (d : NamedDevice) : Type 0 where
   pub read : IsRead all d
   pub valid : first_broken d.rec ≡ None
 
--- The first rule that a device breaks, and where: a rule of its frame, an index out of its list, a rule of devices.
+-- The first rule that a device breaks, and where: a rule of its frame, an index out of its list, a
+-- rule of devices.
 pub record BreaksFrame (all : Segments) (rule : Rule) (place : Place) : Type 0 where
   pub fault : FrameFault
   pub found : reading_in_segments device all ≡ Err (frame fault)
@@ -95,13 +100,16 @@ pub record BreaksRule (all : Segments) (rule : Rule) (place : Place) : Type 0 wh
   pub broken : IsBreach (first_broken from_device.rec) rule place
 
 abbrev pub BreaksDevice : Segments → Rule → Place → Type 0
-BreaksDevice all rule place = BreaksFrame all rule place ⊎ BreaksIndex all rule place ⊎ BreaksRule all rule place
+BreaksDevice all rule place = BreaksFrame all rule place ⊎ BreaksIndex all rule place
+    ⊎ BreaksRule all rule place
 
 abbrev pub device_in : Segments → Step NamedDevice
 device_in all (Ok d) = IsValid all d
-device_in all (Err report) = (rule : Rule) × (place : Place) × BreaksDevice all rule place × (report ≡ Bad Device rule place)
+device_in all (Err report) = (rule : Rule) × (place : Place) × BreaksDevice all rule place
+    × (report ≡ Bad Device rule place)
 
--- The cells of a design. Their names and types are among more names, in which those of the device have kept their numbers.
+-- The cells of a design. Their names and types are among more names, in which those of the device
+-- have kept their numbers.
 pub record NamedCells : Type 0 where
   pub names : List Text
   pub cells : List Cell
@@ -115,10 +123,11 @@ pub record AreCells (d : NamedDevice) (all : Segments) (c : NamedCells) : Type 0
 
 abbrev pub design_in : NamedDevice → Segments → Step NamedCells
 design_in d all (Ok c) = AreCells d all c
-design_in d all (Err report) = (is_first_form d.names d.rec all ≡ false) × (report ≡ NotBuilt Design)
+design_in d all (Err report) = (is_first_form d.names d.rec all ≡ false)
+    × (report ≡ NotBuilt Design)
 
--- The cells are placed by first fit, and this is their netlist: each cell is on a BEL of its own that admits its type, and
--- each used site has one instance.
+-- The cells are placed by first fit, and this is their netlist: each cell is on a BEL of its own
+-- that admits its type, and each used site has one instance.
 pub record IsPlaced (rec : DeviceRec) (cells : List Cell) (phys : Phys) : Type 0 where
   pub fitted : IsFitted rec cells phys
   pub own : HasOwnPlaces rec cells phys
@@ -152,7 +161,8 @@ netlist_of c phys = phys_record c.names phys
 abbrev pub implemented : (cells sites : ℕ) → reports.Report
 implemented cells sites = Implemented cells sites 0 0 1 1
 
--- The netlist is written: its file is its encoding, which reads again as the netlist, and has fewer than 2^27 words.
+-- The netlist is written: its file is its encoding, which reads again as the netlist, and has fewer
+-- than 2^27 words.
 pub record IsWritten (c : NamedCells) (phys : Phys) (outcome : Outcome) : Type 0 where
   pub bytes : List ℕ
   pub fits : is_too_long phys_netlist (netlist_of c phys) ≡ false
@@ -163,9 +173,11 @@ pub record IsWritten (c : NamedCells) (phys : Phys) (outcome : Outcome) : Type 0
 
 abbrev pub written : NamedCells → Phys → Step Outcome
 written c phys (Ok outcome) = IsWritten c phys outcome
-written c phys (Err report) = (is_too_long phys_netlist (netlist_of c phys) ≡ true) × (report ≡ TooLong)
+written c phys (Err report) = (is_too_long phys_netlist (netlist_of c phys) ≡ true)
+    × (report ≡ TooLong)
 
--- The answer: the device is judged before the design, the cells of which are placed, and their netlist is written.
+-- The answer: the device is judged before the design, the cells of which are placed, and their
+-- netlist is written.
 abbrev pub netlist_for : DeviceRec → NamedCells → Step Outcome
 netlist_for rec c = do
   phys ← placed rec c

@@ -32,7 +32,8 @@ pub record IsFlowRun (flow : Flow) (before after : Outside) (status : Status) : 
 -- A run that refuses its words asks nothing of the shelf.
 pub record IsRefusal (before after : Outside) (status : Status) : Type 0 where
   pub usage : status ≡ stat.Usage
-  pub line : PutsLine (line_of a_report.Usage) before.told after.told before.put_faults after.put_faults
+  pub line : PutsLine (line_of a_report.Usage) before.told after.told before.put_faults
+      after.put_faults
   pub files : after.files ≡ before.files
   pub read : after.read_faults ≡ before.read_faults
   pub write : after.write_faults ≡ before.write_faults
@@ -47,12 +48,14 @@ IsRun (Some flow) before after status = IsFlowRun flow before after status
 abbrev pub IsStatusOn : (device design : List ℕ) → Status → Type 0
 IsStatusOn device design status =
     (status ≡ stat.OutOfMemory)
-    ⊎ ((outcome : Outcome) × comes_to (answer (content_of device) (content_of design)) outcome × (status ≡ status_of outcome.report))
+    ⊎ ((outcome : Outcome) × comes_to (answer (content_of device) (content_of design)) outcome
+    × (status ≡ status_of outcome.report))
 
--- Where the words are taken, the shelf tells its files and has both inputs, and nothing fails, the status is that of an
--- answer to the inputs.
+-- Where the words are taken, the shelf tells its files and has both inputs, and nothing fails, the
+-- status is that of an answer to the inputs.
 abbrev pub IsComplete : Option Flow → (before after : Outside) → Status → Type 0
 IsComplete None before after status = status ≡ stat.Usage
 IsComplete (Some flow) before after status =
-    (files : Files) (device design : List ℕ) → before.files ≡ Some files → files flow.device ≡ Some device
+    (files : Files) (device design : List ℕ) → before.files ≡ Some files
+    → files flow.device ≡ Some device
     → files flow.design ≡ Some design → NothingFailed before after → IsStatusOn device design status

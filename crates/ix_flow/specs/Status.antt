@@ -3,7 +3,11 @@ use Rattle.std.specs.Prelude.{ℕ}
 use Rattle.ix_report.specs.declared.report.Report as reports
 use Rattle.ix_report.specs.declared.report.Report.TheVariants as told
 use Rattle.ix_flow.specs.declared.status.Status.{Status}
-use Rattle.ix_flow.specs.declared.status.Status.TheVariants.{Done, No, Usage, Bad, NotBuilt, TooLong, TooFewBels, Unpackable, NoSite, Unreachable, Congested, ReadFault, WriteFault, PutFault, OutOfMemory}
+use Rattle.ix_flow.specs.declared.status.Status.TheVariants.{Done, No, Usage, Bad, NotBuilt}
+use Rattle.ix_flow.specs.declared.status.Status.TheVariants.{TooLong, TooFewBels, Unpackable}
+use Rattle.ix_flow.specs.declared.status.Status.TheVariants.{NoSite, Unreachable, Congested}
+use Rattle.ix_flow.specs.declared.status.Status.TheVariants.{ReadFault, WriteFault, PutFault}
+use Rattle.ix_flow.specs.declared.status.Status.TheVariants.{OutOfMemory}
 
 -- the exit status of the process
 abbrev pub code_of : Status → ℕ

@@ -1,6 +1,7 @@
 //! The answer to the bytes of a device and a design.
 
-ghost use Rattle.std.specs.Prelude.{◌≡◌, ◌+◌, ◌-◌, ◌^◌, ◌<◌, ◌≤◌, Ok, Err, Some, IfOk, IfErr, OnOk, [], ◌∷◌, length, slice_get, true, false};
+ghost use Rattle.std.specs.Prelude.{◌≡◌, ◌+◌, ◌-◌, ◌^◌, ◌<◌, ◌≤◌, Ok, Err, Some, IfOk, IfErr, OnOk};
+ghost use Rattle.std.specs.Prelude.{[], ◌∷◌, length, slice_get, true, false};
 ghost use Rattle.std.specs.List.{AllByRecursion};
 ghost use Rattle.ix_frame.specs.Result.{Finds};
 ghost use Rattle.ix_frame.specs.Views.{segments_of};
@@ -15,7 +16,8 @@ ghost use Rattle.ix_first_fit.specs.Named.{CellNamed};
 ghost use Rattle.ix_first_fit.specs.Answers.{IsFitFault};
 ghost use Rattle.ix_job.specs.Chain.{Meets};
 ghost use Rattle.ix_job.specs.Views.{content_seen, outcome_seen};
-ghost use Rattle.ix_flow.specs.Answer.{rule_of, opened, opens, device_in, design_in, placed, written, netlist_for, answer_for, answer, implemented};
+ghost use Rattle.ix_flow.specs.Answer.{rule_of, opened, opens, device_in, design_in, placed};
+ghost use Rattle.ix_flow.specs.Answer.{written, netlist_for, answer_for, answer, implemented};
 ghost use Rattle.ix_flow.specs.Named.{named_device, named_cells, IsFaultNamed};
 
 use ix_capw::BuildFault;
@@ -98,7 +100,8 @@ fn broken_device(rule: Rule, place: Place) -> Stop
 
 // The first rule of a frame that a file breaks, and the first index out of its list.
 fn reading_fault(fault: ReadFault) -> Stop
-    ensures { (all : Segments) → Refuses fault (reading_in_segments device all) → Meets (named_device []) (device_in all) (Err result) }
+    ensures { (all : Segments) → Refuses fault (reading_in_segments device all)
+        → Meets (named_device []) (device_in all) (Err result) }
 {
     match fault {
         ReadFault::Frame(fault) => {
@@ -116,7 +119,9 @@ fn reading_fault(fault: ReadFault) -> Stop
 // Asks a device's rules.
 fn check_device(alloc: Global, rec: DeviceRec, names: &Names) -> Result<Device, Stop>
     requires { IndexesFit rec }
-    ensures { (all : Segments) → reading_in_segments device all ≡ Ok (device_record names.now rec) → DeviceNamed (length names.now) rec → Meets (named_device names.now) (device_in all) result }
+    ensures { (all : Segments) → reading_in_segments device all ≡ Ok (device_record names.now rec)
+        → DeviceNamed (length names.now) rec → Meets (named_device names.now) (device_in all)
+        result }
 {
     // That no two names are alike is what the table tells with their number.
     let _count = names.len();
@@ -147,7 +152,8 @@ fn first_cells(
     names: &mut Names,
 ) -> Result<Items<Cell>, Stop>
     requires { length names.old + 2 ^ 22 < 2 ^ 32 - 1 }
-    ensures { Meets (named_cells names.new) (design_in (named_device names.old device.now) (segments_of frame.now)) result }
+    ensures { Meets (named_cells names.new)
+        (design_in (named_device names.old device.now) (segments_of frame.now)) result }
 {
     match read_first_form(alloc, frame, device, names) {
         Ok(Some(cells)) => Ok(cells),
@@ -173,7 +179,8 @@ fn unplaced(
 ) -> Result<Report, Memory>
     requires cells { AllByRecursion (CellNamed (length names.now)) cells.now }
     requires fault { IsFaultNamed names.now cells.now fault }
-    ensures { (rec : DeviceRec) → IsFitFault rec cells.now fault → IfOk result (λ report. placed rec (named_cells names.now cells.now) (Err report)) }
+    ensures { (rec : DeviceRec) → IsFitFault rec cells.now fault
+        → IfOk result (λ report. placed rec (named_cells names.now cells.now) (Err report)) }
 {
     match fault {
         FitFault::TooFewBels { kind, cells, bels } => Ok(Report::TooFewBels {
@@ -192,7 +199,8 @@ fn unplaced(
 fn place(alloc: Global, device: &Device, names: &Names, cells: &Items<Cell>) -> Result<Phys, Stop>
     requires named { DeviceNamed (length names.now) device.now }
     requires cells { AllByRecursion (CellNamed (length names.now)) cells.now }
-    ensures placed { Meets (λ phys. phys) (placed device.now (named_cells names.now cells.now)) result }
+    ensures placed { Meets (λ phys. phys) (placed device.now (named_cells names.now cells.now))
+        result }
     ensures named { IfOk result (IsPhysNamed names.now) }
 {
     match first_fit(alloc, device, cells) {
@@ -220,7 +228,8 @@ fn implemented(cells: u32, sites: u32) -> Report
 
 // A job that writes one file.
 fn with_output(alloc: Global, report: Report, bytes: Vec<u8>) -> Result<Outcome, Memory>
-    ensures { IfOk result (λ outcome. outcome_seen outcome ≡ record { report = report; outputs = bytes.items ∷ [] }) }
+    ensures { IfOk result (λ outcome. outcome_seen outcome
+        ≡ record { report = report; outputs = bytes.items ∷ [] }) }
 {
     let mut outputs = Items::new(alloc);
     outputs.push(Bytes::new(bytes))?;
@@ -264,7 +273,8 @@ fn answer_for(
 ) -> Result<Outcome, Stop>
     requires room { length names.old + 2 ^ 22 < 2 ^ 32 - 1 }
     requires named { DeviceNamed (length names.old) device.now }
-    ensures { Meets outcome_seen (answer_for (named_device names.old device.now) (content_seen design.now)) result }
+    ensures { Meets outcome_seen (answer_for (named_device names.old device.now)
+        (content_seen design.now)) result }
 {
     let frame = open(File::Design, design)?;
     let cells = first_cells(alloc, &frame, device, names)?;
@@ -273,7 +283,8 @@ fn answer_for(
 
 /// The answer to two files: the device is judged before the design.
 pub(crate) fn answer(alloc: Global, device: &Content, design: &Content) -> Result<Outcome, Stop>
-    ensures { Meets outcome_seen (answer (content_seen device.now) (content_seen design.now)) result }
+    ensures { Meets outcome_seen (answer (content_seen device.now) (content_seen design.now))
+        result }
 {
     let frame = open(File::Device, device)?;
     let mut names = Names::new(alloc);

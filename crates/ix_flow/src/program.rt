@@ -17,7 +17,8 @@ use std::alloc::Global;
 
 // Prints a line. Where not all of it is put, nothing more can be told.
 fn print<O: Sink>(out: &mut O, line: &[u8])
-    ensures line { PutsLine line.now (O.told out.old) (O.told out.new) (O.faults out.old) (O.faults out.new) }
+    ensures line { PutsLine line.now (O.told out.old) (O.told out.new) (O.faults out.old)
+        (O.faults out.new) }
     ensures faults { O.faults out.old ≤ O.faults out.new }
 {
     let _ = say(out, line);
@@ -44,12 +45,14 @@ fn run_flow<S: Shelf, O: Sink>(
     }
 }
 
-/// Runs the program for the words that follow its name, over a shelf of files and a sink for the line that it prints.
+/// Runs the program for the words that follow its name, over a shelf of files and a sink for the
+/// line that it prints.
 ///
-/// The words are `flow` and the names of a device, a design and a netlist, none of which begins with `-`; others are
-/// `Usage`. Both inputs are read to their end, then judged, the device first; then the netlist is written, and the line
-/// printed. The netlist may have the name of an input. Each status, and what it leaves, is said by `IsRun`: the files are
-/// as before but where the netlist was written, and each fault has its cause outside.
+/// The words are `flow` and the names of a device, a design and a netlist, none of which begins
+/// with `-`; others are `Usage`. Both inputs are read to their end, then judged, the device first;
+/// then the netlist is written, and the line printed. The netlist may have the name of an input.
+/// Each status, and what it leaves, is said by `IsRun`: the files are as before but where the
+/// netlist was written, and each fault has its cause outside.
 ///
 /// Memory is taken before the first file is created, and not after.
 pub fn run<S: Shelf, O: Sink>(alloc: Global, words: &[String], shelf: &mut S, out: &mut O) -> Status

@@ -21,7 +21,8 @@ impl Work for FlowWork {
 
     fn outcome(&self, alloc: Global, inputs: &Items<Content>) -> Result<Outcome, Memory>
         requires { length inputs.now ≡ 2 }
-        ensures { IfOk result (λ outcome. IsFlowOutcome (map content_seen inputs.now) (outcome_seen outcome)) }
+        ensures { IfOk result (λ outcome. IsFlowOutcome (map content_seen inputs.now)
+            (outcome_seen outcome)) }
     {
         match answer(alloc, inputs.at(0), inputs.at(1)) {
             Ok(outcome) => Ok(outcome),

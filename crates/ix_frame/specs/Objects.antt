@@ -1,19 +1,24 @@
--- The fields of a struct, and what reading them costs. A struct that is shorter than a field's slot has the default
--- there, and a longer one is read by its known part.
-use Rattle.std.specs.Prelude.{ℕ, ◌+◌, ◌-◌, ◌*◌, ◌%◌, ◌^◌, max, List, [], length, take, drop, Bool, ◌&&◌, not, nat_lt, nat_le, ◌==◌, Option, Some, None, Result, Ok, Err, if◌then◌else◌, slice_index}
+-- The fields of a struct, and what reading them costs. A struct that is shorter than a field's slot
+-- has the default there, and a longer one is read by its known part.
+use Rattle.std.specs.Prelude.{ℕ, ◌+◌, ◌-◌, ◌*◌, ◌%◌, ◌^◌, max, List, [], length, take, drop, Bool}
+use Rattle.std.specs.Prelude.{◌&&◌, not, nat_lt, nat_le, ◌==◌, Option, Some, None, Result, Ok, Err}
+use Rattle.std.specs.Prelude.{if◌then◌else◌, slice_index}
 use Rattle.std.specs.Str.{is_utf8}
 use Rattle.byteorder.specs.Endian.{little_number}
 use Rattle.ix_num.specs.declared.fault.FrameRule.{FrameRule}
 use Rattle.ix_num.specs.declared.fault.FrameRule.TheVariants.{F3, F6, F7}
 use Rattle.ix_num.specs.declared.fault.FrameFault.{FrameFault}
 use Rattle.ix_frame.specs.Result.{◌>>=◌, unless}
-use Rattle.ix_frame.specs.Segments.{Segments, segment_at, word_at, has_words, word_count, numbers_of_four}
-use Rattle.ix_frame.specs.Target.{Pointed, Object, Elements, target, struct_target, list_target, composite_target}
+use Rattle.ix_frame.specs.Segments.{Segments, segment_at, word_at, has_words, word_count}
+use Rattle.ix_frame.specs.Segments.{numbers_of_four}
+use Rattle.ix_frame.specs.Target.{Pointed, Object, Elements, target, struct_target, list_target}
+use Rattle.ix_frame.specs.Target.{composite_target}
 
 -- The number in a data slot of 32 bits, counted from 0; past the data section 0.
 unfoldable pub u32_in : Object → ℕ → ℕ
 u32_in o slot =
-    if nat_lt slot (2 * o.data_words) then little_number 4 (drop (8 * o.start + 4 * slot) (segment_at o.segments o.segment)) else 0
+    if nat_lt slot (2 * o.data_words) then little_number 4
+    (drop (8 * o.start + 4 * slot) (segment_at o.segments o.segment)) else 0
 
 -- a Bool is the lowest bit of its slot, a tag or an enumerant the low 16
 abbrev pub bool_in : Object → ℕ → Bool
@@ -28,7 +33,8 @@ pointer_word o slot = o.start + o.data_words + slot
 
 -- the pointer is there and isn't zero
 unfoldable pub has_pointer : Object → ℕ → Bool
-has_pointer o slot = nat_lt slot o.pointer_words && not (word_at (segment_at o.segments o.segment) (pointer_word o slot) == 0)
+has_pointer o slot = nat_lt slot o.pointer_words
+    && not (word_at (segment_at o.segments o.segment) (pointer_word o slot) == 0)
 
 -- The default of each kind of field: a struct without words, and a list of nothing.
 abbrev pub no_struct : Segments → Object
@@ -55,7 +61,8 @@ abbrev pub blamed : {A : Type 0} → ℕ → ℕ → Result A FrameRule → Resu
 blamed s w (Ok x) = Ok x
 blamed s w (Err rule) = Err (record { rule = rule; segment = s; word = w })
 
--- Following the pointer at word w of segment s to an object of each kind, with what is left of the budget.
+-- Following the pointer at word w of segment s to an object of each kind, with what is left of the
+-- budget.
 
 unfoldable pub struct_found : Segments → ℕ → Option Pointed → Result (Object × ℕ) FrameRule
 struct_found all budget None = Ok (no_struct all, budget)
@@ -126,31 +133,39 @@ text_behind all s w budget = blamed s w (text_from all s w budget)
 
 unfoldable pub struct_at : Object → ℕ → ℕ → Result (Object × ℕ) FrameFault
 struct_at o slot budget =
-    if nat_lt slot o.pointer_words then struct_behind o.segments o.segment (pointer_word o slot) budget
+    if nat_lt slot o.pointer_words then struct_behind o.segments o.segment (pointer_word o slot)
+    budget
     else Ok (no_struct o.segments, budget)
 
 unfoldable pub elements_at : Object → ℕ → ℕ → Result (Elements × ℕ) FrameFault
 elements_at o slot budget =
-    if nat_lt slot o.pointer_words then elements_behind o.segments o.segment (pointer_word o slot) budget
+    if nat_lt slot o.pointer_words then elements_behind o.segments o.segment (pointer_word o slot)
+    budget
     else Ok (no_elements o.segments, budget)
 
 unfoldable pub list_at : ℕ → Object → ℕ → ℕ → Result (Elements × ℕ) FrameFault
 list_at size o slot budget =
-    if nat_lt slot o.pointer_words then list_behind size o.segments o.segment (pointer_word o slot) budget
+    if nat_lt slot o.pointer_words then list_behind size o.segments o.segment (pointer_word o slot)
+    budget
     else Ok (no_elements o.segments, budget)
 
 unfoldable pub text_at : Object → ℕ → ℕ → Result (List ℕ × ℕ) FrameFault
 text_at o slot budget =
-    if nat_lt slot o.pointer_words then text_behind o.segments o.segment (pointer_word o slot) budget
+    if nat_lt slot o.pointer_words then text_behind o.segments o.segment (pointer_word o slot)
+    budget
     else Ok ([], budget)
 
 -- the i-th struct of a list of structs
 abbrev pub element_of : Elements → ℕ → Object
-element_of l i = record l.first { start = l.first.start + i * (l.first.data_words + l.first.pointer_words) }
+element_of l i = record l.first {
+  start = l.first.start
+      + i * (l.first.data_words + l.first.pointer_words);
+}
 
 -- the numbers of a list of numbers
 abbrev pub numbers_in : Elements → List ℕ
-numbers_in l = numbers_of_four l.count (drop (8 * l.first.start) (segment_at l.first.segments l.first.segment))
+numbers_in l = numbers_of_four l.count (drop (8 * l.first.start)
+    (segment_at l.first.segments l.first.segment))
 
 -- the i-th text of a list of texts, whose pointer is the i-th word of the list
 abbrev pub text_in : Elements → ℕ → ℕ → Result (List ℕ × ℕ) FrameFault

@@ -11,9 +11,10 @@ abbrev pub unless : {E : Type 0} → Bool → E → Result (Unit {0}) E
 unless true fault = Ok tt
 unless false fault = Err fault
 
--- What a call returned, seen by view, is what the definition gives over the budget before the call, and
--- after a fault the budget is as it was.
-abbrev pub Gives : {X Y E Z : Type 0} → (X → Y) → Result X E → (before now : Z) → Result (Y × Z) E → Type 0
+-- What a call returned, seen by view, is what the definition gives over the budget before the call,
+-- and after a fault the budget is as it was.
+abbrev pub Gives : {X Y E Z : Type 0} → (X → Y) → Result X E → (before now : Z) → Result (Y × Z) E
+    → Type 0
 Gives view (Ok x) before now given = given ≡ Ok (view x, now)
 Gives view (Err e) before now given = (given ≡ Err e) × (now ≡ before)
 

@@ -1,6 +1,9 @@
--- The segments of a frame: Cap'n Proto encoding specification, "Serialization Over a Stream". A byte is a
--- number below 256, a segment the list of its bytes, and a word eight bytes, the lowest first.
-use Rattle.std.specs.Prelude.{◌≡◌, ℕ, zero, suc, ◌+◌, ◌*◌, ◌/◌, ◌^◌, ◌<◌, ◌≤◌, List, [], ◌∷◌, length, map, sum, take, drop, Bool, ◌&&◌, nat_lt, nat_le, ◌==◌, Result, Ok, Err, if◌then◌else◌, slice_index_or}
+-- The segments of a frame: Cap'n Proto encoding specification, "Serialization Over a Stream". A
+-- byte is a number below 256, a segment the list of its bytes, and a word eight bytes, the lowest
+-- first.
+use Rattle.std.specs.Prelude.{◌≡◌, ℕ, zero, suc, ◌+◌, ◌*◌, ◌/◌, ◌^◌, ◌<◌, ◌≤◌, List, [], ◌∷◌}
+use Rattle.std.specs.Prelude.{length, map, sum, take, drop, Bool, ◌&&◌, nat_lt, nat_le, ◌==◌}
+use Rattle.std.specs.Prelude.{Result, Ok, Err, if◌then◌else◌, slice_index_or}
 use Rattle.byteorder.specs.Endian.{little_number}
 use Rattle.ix_num.specs.declared.fault.FrameRule.{FrameRule}
 use Rattle.ix_num.specs.declared.fault.FrameRule.TheVariants.{F1, F2}
@@ -17,8 +20,8 @@ unfoldable pub numbers_of_four : ℕ → List ℕ → List ℕ
 numbers_of_four zero bytes = []
 numbers_of_four (suc n) bytes = little_number 4 bytes ∷ numbers_of_four n (drop 4 bytes)
 
--- the bytes that the table of n segments takes: a number of four bytes for the count, one for each segment's
--- words, and what is missing to a whole word
+-- the bytes that the table of n segments takes: a number of four bytes for the count, one for each
+-- segment's words, and what is missing to a whole word
 abbrev pub table_length : ℕ → ℕ
 table_length n = 8 * (n / 2 + 1)
 
@@ -39,8 +42,8 @@ cut (n ∷ ns) bytes = take (8 * n) bytes ∷ cut ns (drop (8 * n) bytes)
 unfoldable pub cut_out : List ℕ → Segments
 cut_out bytes = cut (segment_words bytes) (drop (table_length (segment_count bytes)) bytes)
 
--- The segments that the file's table cuts out, the whole file used, or the first of F1 and F2: too short for
--- the count, too many segments, a table that is cut, another length than the table's.
+-- The segments that the file's table cuts out, the whole file used, or the first of F1 and F2: too
+-- short for the count, too many segments, a table that is cut, another length than the table's.
 unfoldable pub segments : List ℕ → Result Segments FrameRule
 segments bytes =
     if nat_lt (length bytes) 4 then Err F1
@@ -65,7 +68,8 @@ word_at segment w = little_number 8 (drop (8 * w) segment)
 
 -- the segment is there, and n words from this place on lie in it
 abbrev pub has_words : Segments → ℕ → ℕ → ℕ → Bool
-has_words all s start n = nat_lt s (length all) && nat_le (8 * (start + n)) (length (segment_at all s))
+has_words all s start n = nat_lt s (length all)
+    && nat_le (8 * (start + n)) (length (segment_at all s))
 
 -- the words of all segments, the table not counted
 abbrev pub word_count : Segments → ℕ

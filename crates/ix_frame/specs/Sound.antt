@@ -1,7 +1,9 @@
--- What the pointers of a frame lead to whose reading is known to find no fault: no budget is asked. A pointer that can't
--- be followed counts as zero here, so each of these is told of any frame; a reading never meets such a pointer.
+-- What the pointers of a frame lead to whose reading is known to find no fault: no budget is asked.
+-- A pointer that can't be followed counts as zero here, so each of these is told of any frame; a
+-- reading never meets such a pointer.
 use Rattle.std.specs.Prelude.{ℕ, ◌-◌, ◌^◌, List, [], Result, Ok, Err}
-use Rattle.ix_frame.specs.Objects.{no_struct, no_elements, struct_at, elements_at, list_at, text_at, text_in}
+use Rattle.ix_frame.specs.Objects.{no_struct, no_elements, struct_at, elements_at, list_at, text_at}
+use Rattle.ix_frame.specs.Objects.{text_in}
 use Rattle.ix_frame.specs.Target.{Object, Elements}
 
 -- more than any reading may cost

@@ -1,6 +1,7 @@
--- What a pointer leads to: Cap'n Proto encoding specification, "Structs", "Lists", "Inter-Segment Pointers".
--- Each check is one of this project's frame rules, in the order in which they are asked.
-use Rattle.std.specs.Prelude.{ℕ, ◌+◌, ◌-◌, ◌*◌, ◌/◌, ◌%◌, ◌^◌, Bool, nat_lt, nat_le, ◌==◌, Option, Some, None, Result, Ok, Err, if◌then◌else◌}
+-- What a pointer leads to: Cap'n Proto encoding specification, "Structs", "Lists", "Inter-Segment
+-- Pointers". Each check is one of this project's frame rules, in the order in which they are asked.
+use Rattle.std.specs.Prelude.{ℕ, ◌+◌, ◌-◌, ◌*◌, ◌/◌, ◌%◌, ◌^◌, Bool, nat_lt, nat_le, ◌==◌, Option}
+use Rattle.std.specs.Prelude.{Some, None, Result, Ok, Err, if◌then◌else◌}
 use Rattle.ix_num.specs.declared.fault.FrameRule.{FrameRule}
 use Rattle.ix_num.specs.declared.fault.FrameRule.TheVariants.{F3, F4, F5, F8}
 use Rattle.ix_frame.specs.Result.{◌>>=◌, unless}
@@ -40,8 +41,8 @@ pad_word_of w = w / 8 % 2 ^ 29
 abbrev pub pad_segment_of : ℕ → ℕ
 pad_segment_of w = w / 2 ^ 32
 
--- The object that a pointer leads to, before its size is asked: the word that describes it, of kind 0 or 1, its
--- segment, and the word at which it begins, none where that is before the segment.
+-- The object that a pointer leads to, before its size is asked: the word that describes it, of kind
+-- 0 or 1, its segment, and the word at which it begins, none where that is before the segment.
 pub record Pointed : Type 0 where
   pub described : ℕ
   pub segment : ℕ
@@ -56,9 +57,14 @@ offset_from base offset =
 
 -- what a word of kind 0 or 1 points to, which stands at word w of segment s
 abbrev pub near : ℕ → ℕ → ℕ → Pointed
-near s w described = record { described = described; segment = s; start = offset_from (w + 1) (offset_of described) }
+near s w described = record {
+  described = described;
+  segment = s;
+  start = offset_from (w + 1) (offset_of described);
+}
 
--- A pad of one word is the pointer itself, no far one; a zero word there is the default, as elsewhere.
+-- A pad of one word is the pointer itself, no far one; a zero word there is the default, as
+-- elsewhere.
 unfoldable pub through_one_word : Segments → ℕ → ℕ → Result (Option Pointed) FrameRule
 through_one_word all s w = let pad = word_at (segment_at all s) w in do
   present ← unless (has_words all s w 1) F3
@@ -68,12 +74,17 @@ through_one_word all s w = let pad = word_at (segment_at all s) w in do
 
 -- A pad of two words is a far pointer to the content, and a tag whose offset isn't looked at.
 unfoldable pub through_two_words : Segments → ℕ → ℕ → Result (Option Pointed) FrameRule
-through_two_words all s w = let pad = word_at (segment_at all s) w in let tag = word_at (segment_at all s) (w + 1) in do
-  present ← unless (has_words all s w 2) F3
-  far ← unless (kind_of pad == 2) F4
-  single ← unless (pad / 4 % 2 == 0) F4
-  tagged ← unless (nat_lt (kind_of tag) 2) F4
-  Ok (Some (record { described = tag; segment = pad_segment_of pad; start = Some (pad_word_of pad) }))
+through_two_words all s w = let pad = word_at (segment_at all s) w in let tag
+    = word_at (segment_at all s) (w + 1) in do
+      present ← unless (has_words all s w 2) F3
+      far ← unless (kind_of pad == 2) F4
+      single ← unless (pad / 4 % 2 == 0) F4
+      tagged ← unless (nat_lt (kind_of tag) 2) F4
+      Ok (Some (record {
+        described = tag;
+        segment = pad_segment_of pad;
+        start = Some (pad_word_of pad);
+      }))
 
 -- What the pointer at word w of segment s leads to, none where it is the default.
 unfoldable pub target : Segments → ℕ → ℕ → Result (Option Pointed) FrameRule
@@ -92,7 +103,8 @@ placed all p n = start_in p.start
     start_in None = Err F3
     start_in (Some start) = if has_words all p.segment start n then Ok start else Err F3
 
--- A struct, or a list's first element with all of them alike: its segment, where it begins, and its two sections.
+-- A struct, or a list's first element with all of them alike: its segment, where it begins, and its
+-- two sections.
 pub record Object : Type 0 where
   pub segments : Segments
   pub segment : ℕ
@@ -107,25 +119,48 @@ pub record Elements : Type 0 where
 
 -- the struct that is meant, with the words that it takes
 unfoldable pub struct_target : Segments → Pointed → Result (Object × ℕ) FrameRule
-struct_target all p = let data_words = data_words_of p.described in let pointer_words = pointer_words_of p.described in do
-  fitting ← unless (kind_of p.described == 0) F4
-  start ← placed all p (data_words + pointer_words)
-  Ok (record { segments = all; segment = p.segment; start = start; data_words = data_words; pointer_words = pointer_words }, data_words + pointer_words)
+struct_target all p = let data_words = data_words_of p.described in let pointer_words
+    = pointer_words_of p.described in do
+      fitting ← unless (kind_of p.described == 0) F4
+      start ← placed all p (data_words + pointer_words)
+      Ok (
+        record {
+          segments = all;
+          segment = p.segment;
+          start = start;
+          data_words = data_words;
+          pointer_words = pointer_words;
+        },
+        data_words + pointer_words,
+      )
 
 -- a list of the wanted element size is meant, not of structs: how many words n elements take
 abbrev pub list_words : ℕ → ℕ → ℕ
 list_words size n = if size == 2 then (n + 7) / 8 else if size == 4 then (n + 1) / 2 else n
 
--- the list that is meant, with the words that it takes: of bytes (element size 2), of numbers (4), of pointers (6)
+-- the list that is meant, with the words that it takes: of bytes (element size 2), of numbers (4),
+-- of pointers (6)
 unfoldable pub list_target : ℕ → Segments → Pointed → Result (Elements × ℕ) FrameRule
 list_target size all p = let n = element_count_of p.described in do
   list ← unless (kind_of p.described == 1) F4
   fitting ← unless (element_size_of p.described == size) F4
   start ← placed all p (list_words size n)
-  Ok (record { count = n; first = record { segments = all; segment = p.segment; start = start; data_words = 0; pointer_words = 0 } }, list_words size n)
+  Ok (
+    record {
+      count = n;
+      first = record {
+        segments = all;
+        segment = p.segment;
+        start = start;
+        data_words = 0;
+        pointer_words = 0;
+      };
+    },
+    list_words size n,
+  )
 
--- The list of structs that is meant. Its first word is a tag in the form of a struct pointer, whose offset field is
--- the element count.
+-- The list of structs that is meant. Its first word is a tag in the form of a struct pointer, whose
+-- offset field is the element count.
 unfoldable pub composite_target : Segments → Pointed → Result (Elements × ℕ) FrameRule
 composite_target all p = let words = element_count_of p.described in do
   list ← unless (kind_of p.described == 1) F4
@@ -136,4 +171,17 @@ composite_target all p = let words = element_count_of p.described in do
   let pointer_words = pointer_words_of tag
   struct ← unless (kind_of tag == 0) F8
   inside ← unless (nat_le (offset_of tag * (data_words + pointer_words)) words) F8
-  Ok (record { count = offset_of tag; first = record { segments = all; segment = p.segment; start = start + 1; data_words = data_words; pointer_words = pointer_words } }, words)
+  Ok (
+    record {
+      count = offset_of tag;
+      first
+          = record {
+            segments = all;
+            segment = p.segment;
+            start = start + 1;
+            data_words = data_words;
+            pointer_words = pointer_words;
+          };
+    },
+    words,
+  )

@@ -41,13 +41,38 @@ abbrev pub IsPlace : Segments → ℕ → ℕ → Place → Type 0
 IsPlace segments n words p = Holds segments n p.start words p.segment
 
 abbrev pub object_of : Obj → Object
-object_of o = record { segments = all_of o.segment; segment = o.segment.number; start = o.start; data_words = o.data_words; pointer_words = o.pointer_words }
+object_of o = record {
+  segments = all_of o.segment;
+  segment = o.segment.number;
+  start = o.start;
+  data_words = o.data_words;
+  pointer_words = o.pointer_words;
+}
 
 abbrev pub elements_of : List → Elements
-elements_of l = record { count = l.count; first = record { segments = all_of l.segment; segment = l.segment.number; start = l.start; data_words = l.data_words; pointer_words = l.pointer_words } }
+elements_of l = record {
+  count = l.count;
+  first = record {
+    segments = all_of l.segment;
+    segment = l.segment.number;
+    start = l.start;
+    data_words = l.data_words;
+    pointer_words = l.pointer_words;
+  };
+}
 
 abbrev pub run_of : Run → Elements
-run_of l = record { count = l.count; first = record { segments = all_of l.segment; segment = l.segment.number; start = l.start; data_words = 0; pointer_words = 0 } }
+run_of l = record {
+  count = l.count;
+  first
+      = record {
+        segments = all_of l.segment;
+        segment = l.segment.number;
+        start = l.start;
+        data_words = 0;
+        pointer_words = 0;
+      };
+}
 
 -- the words of a list of this element size lie in its segment
 pub record IsRun (size : ℕ) (l : Run) : Type 0 where
@@ -55,10 +80,28 @@ pub record IsRun (size : ℕ) (l : Run) : Type 0 where
 
 -- a list of numbers, and the numbers themselves
 abbrev pub number_elements : Numbers → Elements
-number_elements l = record { count = l.count; first = record { segments = all_of l.segment; segment = l.segment.number; start = l.start; data_words = 0; pointer_words = 0 } }
+number_elements l = record {
+  count = l.count;
+  first = record {
+    segments = all_of l.segment;
+    segment = l.segment.number;
+    start = l.start;
+    data_words = 0;
+    pointer_words = 0;
+  };
+}
 
 abbrev pub numbers_of : Numbers → Items ℕ
 numbers_of l = numbers_in (number_elements l)
 
 abbrev pub text_elements : Texts → Elements
-text_elements l = record { count = l.count; first = record { segments = all_of l.segment; segment = l.segment.number; start = l.start; data_words = 0; pointer_words = 0 } }
+text_elements l = record {
+  count = l.count;
+  first = record {
+    segments = all_of l.segment;
+    segment = l.segment.number;
+    start = l.start;
+    data_words = 0;
+    pointer_words = 0;
+  };
+}

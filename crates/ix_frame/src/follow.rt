@@ -1,10 +1,14 @@
 //! Following a pointer to an object of each kind, with what is left of the budget.
 
-ghost use Rattle.std.specs.Prelude.{◌≡◌, ◌+◌, ◌*◌, ◌<◌, ◌≤◌, ◌^◌, length, IfOk, MatchOption, Some, true, false};
+ghost use Rattle.std.specs.Prelude.{◌≡◌, ◌+◌, ◌*◌, ◌<◌, ◌≤◌, ◌^◌, length, IfOk, MatchOption, Some};
+ghost use Rattle.std.specs.Prelude.{true, false};
 ghost use Rattle.std.specs.Str.{is_utf8};
 ghost use Rattle.ix_frame.specs.Result.{Finds, Gives};
 ghost use Rattle.ix_frame.specs.Target.{struct_target, list_target, composite_target, list_words};
-ghost use Rattle.ix_frame.specs.Objects.{charged, composite_cost, no_struct, no_elements, bytes_of, text_of, struct_from, struct_behind, elements_from, elements_behind, list_from, list_behind, list_found, text_from, text_behind};
+ghost use Rattle.ix_frame.specs.Objects.{charged, composite_cost, no_struct, no_elements, bytes_of};
+ghost use Rattle.ix_frame.specs.Objects.{text_of, struct_from, struct_behind, elements_from};
+ghost use Rattle.ix_frame.specs.Objects.{elements_behind, list_from, list_behind, list_found};
+ghost use Rattle.ix_frame.specs.Objects.{text_from, text_behind};
 ghost use Rattle.ix_frame.specs.Views.{all_of, aim_of, object_of, elements_of, run_of, IsRun};
 
 use crate::frame::Budget;
@@ -50,10 +54,12 @@ fn charge(cost: u64, budget: u64) -> Result<u64, FrameRule>
     }
 }
 
-/// The struct that is meant, with the words that it takes. F4 for another kind, F3 where it isn't in its segment.
+/// The struct that is meant, with the words that it takes. F4 for another kind, F3 where it isn't
+/// in its segment.
 #[tactic(auto, unfolding(crate::specs::Target::struct_target))]
 fn struct_of<'a>(from: &Segment<'a>, aim: &Aim) -> Result<(Obj<'a>, u32), FrameRule>
-    ensures { Finds (λ x. (object_of x.0, x.1)) result (struct_target (all_of from.now) (aim_of aim.now)) }
+    ensures { Finds (λ x. (object_of x.0, x.1)) result
+        (struct_target (all_of from.now) (aim_of aim.now)) }
 {
     let described = aim.described;
     if described % 4 != 0 {
@@ -76,7 +82,8 @@ fn struct_of<'a>(from: &Segment<'a>, aim: &Aim) -> Result<(Obj<'a>, u32), FrameR
 #[tactic(auto, unfolding(crate::specs::Objects::struct_found))]
 fn struct_from<'a>(from: &Segment<'a>, word: u32, budget: u64) -> Result<(Obj<'a>, u64), FrameRule>
     requires { 8 * (word + 1) ≤ length from.now.bytes.now }
-    ensures exact { Finds (λ x. (object_of x.0, x.1)) result (struct_from (all_of from.now) from.now.number word budget) }
+    ensures exact { Finds (λ x. (object_of x.0, x.1)) result
+        (struct_from (all_of from.now) from.now.number word budget) }
     ensures left { IfOk result (λ x. x.1 ≤ budget) }
 {
     let Some(aim) = aim_at(from, word)? else {
@@ -95,7 +102,8 @@ pub fn struct_behind<'a>(
     budget: &mut Budget,
 ) -> Result<Obj<'a>, FrameFault>
     requires { 8 * (word + 1) ≤ length from.now.bytes.now }
-    ensures exact { Gives object_of result budget.old budget.new (struct_behind (all_of from.now) from.now.number word budget.old) }
+    ensures exact { Gives object_of result budget.old budget.new
+        (struct_behind (all_of from.now) from.now.number word budget.old) }
     ensures left { budget.new ≤ budget.old }
 {
     match struct_from(from, word, budget.left()) {
@@ -128,11 +136,13 @@ pub fn no_elements<'a>(from: &Segment<'a>) -> List<'a>
     }
 }
 
-/// The list of structs that is meant, with the words that it takes. F4 for another kind or element size, F3 where it
-/// isn't in its segment, F8 for a tag that isn't of struct form or elements that pass the list's words.
+/// The list of structs that is meant, with the words that it takes. F4 for another kind or element
+/// size, F3 where it isn't in its segment, F8 for a tag that isn't of struct form or elements that
+/// pass the list's words.
 #[tactic(auto, unfolding(crate::specs::Target::composite_target))]
 fn elements_of<'a>(from: &Segment<'a>, aim: &Aim) -> Result<(List<'a>, u32), FrameRule>
-    ensures exact { Finds (λ x. (elements_of x.0, x.1)) result (composite_target (all_of from.now) (aim_of aim.now)) }
+    ensures exact { Finds (λ x. (elements_of x.0, x.1)) result
+        (composite_target (all_of from.now) (aim_of aim.now)) }
     ensures inside { IfOk result (λ x. x.0.count * (x.0.data_words + x.0.pointer_words) ≤ x.1) }
 {
     let described = aim.described;
@@ -186,7 +196,8 @@ fn elements_from<'a>(
     budget: u64,
 ) -> Result<(List<'a>, u64), FrameRule>
     requires { 8 * (word + 1) ≤ length from.now.bytes.now }
-    ensures exact { Finds (λ x. (elements_of x.0, x.1)) result (elements_from (all_of from.now) from.now.number word budget) }
+    ensures exact { Finds (λ x. (elements_of x.0, x.1)) result
+        (elements_from (all_of from.now) from.now.number word budget) }
     ensures count { IfOk result (λ x. x.0.count + x.1 ≤ budget) }
 {
     let Some(aim) = aim_at(from, word)? else {
@@ -197,7 +208,8 @@ fn elements_from<'a>(
     Ok((list, left))
 }
 
-/// The list of structs behind a pointer. Its cost is taken from the budget, unless there is a fault.
+/// The list of structs behind a pointer. Its cost is taken from the budget, unless there is a
+/// fault.
 #[tactic(auto, unfolding(crate::specs::Objects::elements_behind))]
 pub fn elements_behind<'a>(
     from: &Segment<'a>,
@@ -205,7 +217,8 @@ pub fn elements_behind<'a>(
     budget: &mut Budget,
 ) -> Result<List<'a>, FrameFault>
     requires { 8 * (word + 1) ≤ length from.now.bytes.now }
-    ensures exact { Gives elements_of result budget.old budget.new (elements_behind (all_of from.now) from.now.number word budget.old) }
+    ensures exact { Gives elements_of result budget.old budget.new
+        (elements_behind (all_of from.now) from.now.number word budget.old) }
     ensures left { budget.new ≤ budget.old }
     ensures count { IfOk result (λ l. l.count + budget.new ≤ budget.old) }
 {
@@ -252,11 +265,12 @@ fn run_words(size: u32, count: u32) -> u32
     }
 }
 
-/// The list of this element size that is meant, with the words that it takes. F4 for another kind or element size,
-/// F3 where it isn't in its segment.
+/// The list of this element size that is meant, with the words that it takes. F4 for another kind
+/// or element size, F3 where it isn't in its segment.
 #[tactic(auto, unfolding(crate::specs::Target::list_target))]
 fn run_at<'a>(size: u32, from: &Segment<'a>, aim: &Aim) -> Result<(Run<'a>, u32), FrameRule>
-    ensures exact { Finds (λ x. (run_of x.0, x.1)) result (list_target size (all_of from.now) (aim_of aim.now)) }
+    ensures exact { Finds (λ x. (run_of x.0, x.1)) result
+        (list_target size (all_of from.now) (aim_of aim.now)) }
     ensures words { IfOk result (λ x. x.1 ≡ list_words size x.0.count) }
     ensures inside { IfOk result (λ x. IsRun size x.0) }
 {
@@ -286,7 +300,8 @@ fn run_found<'a>(
     aim: &Aim,
     budget: u64,
 ) -> Result<(Run<'a>, u64), FrameRule>
-    ensures exact { Finds (λ x. (run_of x.0, x.1)) result (list_found size (all_of from.now) budget (Some (aim_of aim.now))) }
+    ensures exact { Finds (λ x. (run_of x.0, x.1)) result
+        (list_found size (all_of from.now) budget (Some (aim_of aim.now))) }
     ensures words { IfOk result (λ x. list_words size x.0.count + x.1 ≤ budget) }
     ensures inside { IfOk result (λ x. IsRun size x.0) }
 {
@@ -304,7 +319,8 @@ fn run_from<'a>(
     budget: u64,
 ) -> Result<(Run<'a>, u64), FrameRule>
     requires { 8 * (word + 1) ≤ length from.now.bytes.now }
-    ensures exact { Finds (λ x. (run_of x.0, x.1)) result (list_from size (all_of from.now) from.now.number word budget) }
+    ensures exact { Finds (λ x. (run_of x.0, x.1)) result
+        (list_from size (all_of from.now) from.now.number word budget) }
     ensures words { IfOk result (λ x. list_words size x.0.count + x.1 ≤ budget) }
     ensures inside { IfOk result (λ x. IsRun size x.0) }
 {
@@ -314,7 +330,8 @@ fn run_from<'a>(
     run_found(size, from, &aim, budget)
 }
 
-/// The list of this element size behind a pointer. Its cost is taken from the budget, unless there is a fault.
+/// The list of this element size behind a pointer. Its cost is taken from the budget, unless there
+/// is a fault.
 #[tactic(auto, unfolding(crate::specs::Objects::list_behind))]
 pub fn run_behind<'a>(
     size: u32,
@@ -323,7 +340,8 @@ pub fn run_behind<'a>(
     budget: &mut Budget,
 ) -> Result<Run<'a>, FrameFault>
     requires { 8 * (word + 1) ≤ length from.now.bytes.now }
-    ensures exact { Gives run_of result budget.old budget.new (list_behind size (all_of from.now) from.now.number word budget.old) }
+    ensures exact { Gives run_of result budget.old budget.new
+        (list_behind size (all_of from.now) from.now.number word budget.old) }
     ensures left { budget.new ≤ budget.old }
     ensures words { IfOk result (λ l. list_words size l.count + budget.new ≤ budget.old) }
     ensures inside { IfOk result (IsRun size) }
@@ -355,7 +373,8 @@ fn run_bytes<'a>(run: &Run<'a>) -> &'a [u8]
 
 /// The text that the bytes are, where they are UTF-8.
 fn spelled(bytes: &[u8]) -> Option<&str>
-    ensures { MatchOption result (is_utf8 bytes.now ≡ false) (λ text. (is_utf8 bytes.now ≡ true) × (text.now ≡ bytes.now)) }
+    ensures { MatchOption result (is_utf8 bytes.now ≡ false) (λ text. (is_utf8 bytes.now ≡ true)
+        × (text.now ≡ bytes.now)) }
 {
     match str::from_utf8(bytes) {
         Ok(text) => Some(text),
@@ -363,8 +382,8 @@ fn spelled(bytes: &[u8]) -> Option<&str>
     }
 }
 
-/// The text that the bytes are, without the NUL at its end. F6 where they don't end with one, or what stands before
-/// it isn't UTF-8.
+/// The text that the bytes are, without the NUL at its end. F6 where they don't end with one, or
+/// what stands before it isn't UTF-8.
 #[tactic(auto, unfolding(crate::specs::Objects::text_of))]
 fn text_of(bytes: &[u8]) -> Result<&str, FrameRule>
     ensures exact { Finds (λ text. text.now) result (text_of bytes.now) }
@@ -387,7 +406,8 @@ fn text_of(bytes: &[u8]) -> Result<&str, FrameRule>
 #[tactic(auto, unfolding(crate::specs::Objects::text_found))]
 fn text_from<'a>(from: &Segment<'a>, word: u32, budget: u64) -> Result<(&'a str, u64), FrameRule>
     requires { 8 * (word + 1) ≤ length from.now.bytes.now }
-    ensures exact { Finds (λ x. (x.0.now, x.1)) result (text_from (all_of from.now) from.now.number word budget) }
+    ensures exact { Finds (λ x. (x.0.now, x.1)) result
+        (text_from (all_of from.now) from.now.number word budget) }
     ensures left { IfOk result (λ x. x.1 ≤ budget) }
     ensures short { IfOk result (λ x. length x.0.now + 8 * x.1 ≤ 8 * budget) }
 {
@@ -407,7 +427,8 @@ pub fn text_behind<'a>(
     budget: &mut Budget,
 ) -> Result<&'a str, FrameFault>
     requires { 8 * (word + 1) ≤ length from.now.bytes.now }
-    ensures exact { Gives (λ text. text.now) result budget.old budget.new (text_behind (all_of from.now) from.now.number word budget.old) }
+    ensures exact { Gives (λ text. text.now) result budget.old budget.new
+        (text_behind (all_of from.now) from.now.number word budget.old) }
     ensures left { budget.new ≤ budget.old }
     ensures short { IfOk result (λ text. length text.now + 8 * budget.new ≤ 8 * budget.old) }
 {

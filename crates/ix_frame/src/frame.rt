@@ -11,9 +11,10 @@ use byteorder::{ByteOrder, LittleEndian};
 use ix_num::{FrameFault, FrameRule};
 use std::marker::Model;
 
-/// What reading a message may still cost, in words. Each pointer that is followed is charged for the
-/// object behind it, so that no message, however its pointers share objects or lead back, is read for
-/// longer than its size allows (Cap'n Proto encoding specification, "Security Considerations": amplification).
+/// What reading a message may still cost, in words. Each pointer that is followed is charged for
+/// the object behind it, so that no message, however its pointers share objects or lead back, is
+/// read for longer than its size allows (Cap'n Proto encoding specification, "Security
+/// Considerations": amplification).
 #[derive(Drop)]
 pub struct Budget(u64);
 
@@ -63,9 +64,9 @@ impl Budget {
     }
 }
 
-/// A file that holds a Cap'n Proto message, opened: its table of segments was read, and the segments fill the
-/// rest of the file (Cap'n Proto encoding specification, "Serialization Over a Stream"). A `Copy` value over the
-/// file's bytes.
+/// A file that holds a Cap'n Proto message, opened: its table of segments was read, and the
+/// segments fill the rest of the file (Cap'n Proto encoding specification, "Serialization Over a
+/// Stream"). A `Copy` value over the file's bytes.
 #[derive(Clone, Copy)]
 pub struct Frame<'a> {
     pub(crate) bytes: &'a [u8],
@@ -91,9 +92,10 @@ impl<'a> Frame<'a> {
     ghost use Rattle.ix_frame.specs.Result.{Gives};
     ghost use Rattle.ix_frame.specs.Views.{segments_of, object_of};
 
-    /// Opens a file's bytes, of which there are at most 2^30. Refused are, in this order: F1 for fewer than 4
-    /// bytes, F2 for more than 512 segments, F1 for a table that the end cuts, and F1 for segments that end
-    /// before the file's end or after it. The fault stands at word 0 of segment 0.
+    /// Opens a file's bytes, of which there are at most 2^30. Refused are, in this order: F1 for
+    /// fewer than 4 bytes, F2 for more than 512 segments, F1 for a table that the end cuts, and F1
+    /// for segments that end before the file's end or after it. The fault stands at word 0 of
+    /// segment 0.
     #[tactic(auto, unfolding(crate::specs::Segments::segments))]
     pub fn open(bytes: &'a [u8]) -> Result<Frame<'a>, FrameFault>
         requires { length bytes.now ≤ 2 ^ 30 }
@@ -130,12 +132,14 @@ impl<'a> Frame<'a> {
         }
     }
 
-    /// The struct that the root pointer leads to, which is word 0 of segment 0; a struct without words where it is zero.
-    /// Its words, at least 1, are taken from the budget, and nothing for the default. Else the first of F5, F4, F3
-    /// (also where segment 0 has no word) and F7, at word 0 of segment 0, and the budget is as before.
+    /// The struct that the root pointer leads to, which is word 0 of segment 0; a struct without
+    /// words where it is zero. Its words, at least 1, are taken from the budget, and nothing for
+    /// the default. Else the first of F5, F4, F3 (also where segment 0 has no word) and F7, at word
+    /// 0 of segment 0, and the budget is as before.
     #[tactic(auto, unfolding(crate::specs::Objects::root_of))]
     pub fn root(&self, budget: &mut Budget) -> Result<Obj<'a>, FrameFault>
-        ensures exact { Gives object_of result budget.old budget.new (root_of (segments_of self.now) budget.old) }
+        ensures exact { Gives object_of result budget.old budget.new
+            (root_of (segments_of self.now) budget.old) }
         ensures left { budget.new ≤ budget.old }
     {
         let Some(segment) = Segment::of(self, 0) else {

@@ -10,8 +10,8 @@ use crate::table::behind;
 use byteorder::{ByteOrder, LittleEndian};
 use ix_num::FrameFault;
 
-/// A list of structs, which stand one after another and are alike in their sections: a composite list of the Cap'n
-/// Proto encoding specification, "Lists". A `Copy` value over the file's bytes.
+/// A list of structs, which stand one after another and are alike in their sections: a composite
+/// list of the Cap'n Proto encoding specification, "Lists". A `Copy` value over the file's bytes.
 #[derive(Clone, Copy)]
 pub struct List<'a> {
     pub(crate) segment: Segment<'a>,
@@ -49,8 +49,8 @@ impl<'a> List<'a> {
     }
 }
 
-/// A list of numbers of 32 bits, the lowest byte first: element size 4 of the Cap'n Proto encoding specification,
-/// "Lists". A `Copy` value over the file's bytes.
+/// A list of numbers of 32 bits, the lowest byte first: element size 4 of the Cap'n Proto encoding
+/// specification, "Lists". A `Copy` value over the file's bytes.
 #[derive(Clone, Copy)]
 pub struct Numbers<'a> {
     pub(crate) segment: Segment<'a>,
@@ -80,8 +80,8 @@ impl<'a> Numbers<'a> {
     }
 }
 
-/// A list of texts, which is a list of pointers: element size 6 of the Cap'n Proto encoding specification, "Lists". A
-/// `Copy` value over the file's bytes.
+/// A list of texts, which is a list of pointers: element size 6 of the Cap'n Proto encoding
+/// specification, "Lists". A `Copy` value over the file's bytes.
 #[derive(Clone, Copy)]
 pub struct Texts<'a> {
     pub(crate) segment: Segment<'a>,
@@ -103,12 +103,14 @@ impl<'a> Texts<'a> {
         self.count
     }
 
-    /// The i-th text, counted from 0, without the NUL that ends it: a slice of the file, empty where its pointer is zero.
-    /// The words of its bytes, rounded up, at least 1, are taken from the budget, and nothing for a pointer that is zero.
-    /// Else the first of F5, F4, F3, F7 and F6, at the text's own word of the list, and the budget is as before.
+    /// The i-th text, counted from 0, without the NUL that ends it: a slice of the file, empty
+    /// where its pointer is zero. The words of its bytes, rounded up, at least 1, are taken from
+    /// the budget, and nothing for a pointer that is zero. Else the first of F5, F4, F3, F7 and F6,
+    /// at the text's own word of the list, and the budget is as before.
     pub fn at(&self, i: u32, budget: &mut Budget) -> Result<&'a str, FrameFault>
         requires { i < (text_elements self.now).count }
-        ensures exact { Gives (λ text. text.now) result budget.old budget.new (text_in (text_elements self.now) i budget.old) }
+        ensures exact { Gives (λ text. text.now) result budget.old budget.new
+            (text_in (text_elements self.now) i budget.old) }
         ensures left { budget.new ≤ budget.old }
         ensures short { IfOk result (λ text. length text.now + 8 * budget.new ≤ 8 * budget.old) }
     {

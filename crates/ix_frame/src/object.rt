@@ -12,12 +12,12 @@ use crate::table::behind;
 use byteorder::{ByteOrder, LittleEndian};
 use ix_num::FrameFault;
 
-/// A struct of a message: its place, and how many words its data and its pointers take (Cap'n Proto encoding
-/// specification, "Structs" and "Default Values"). A `Copy` value over the file's bytes.
+/// A struct of a message: its place, and how many words its data and its pointers take (Cap'n Proto
+/// encoding specification, "Structs" and "Default Values"). A `Copy` value over the file's bytes.
 ///
-/// A field is read by its slot, counted from 0 within its section: data in slots of 32 bits, pointers in slots of
-/// a word. A field past its section has its default, so that a struct written by an older or a newer schema is read
-/// by the part that is known.
+/// A field is read by its slot, counted from 0 within its section: data in slots of 32 bits,
+/// pointers in slots of a word. A field past its section has its default, so that a struct written
+/// by an older or a newer schema is read by the part that is known.
 #[derive(Clone, Copy)]
 pub struct Obj<'a> {
     pub(crate) segment: Segment<'a>,
@@ -30,9 +30,11 @@ pub struct Obj<'a> {
 impl<'a> Obj<'a> {
     ghost use Rattle.std.specs.Prelude.{◌≡◌, IfOk};
     ghost use Rattle.ix_frame.specs.Result.{Gives};
-    ghost use Rattle.ix_frame.specs.Objects.{u32_in, bool_in, tag_in, has_pointer, struct_at, elements_at, list_at, text_at};
+    ghost use Rattle.ix_frame.specs.Objects.{u32_in, bool_in, tag_in, has_pointer, struct_at};
+    ghost use Rattle.ix_frame.specs.Objects.{elements_at, list_at, text_at};
     ghost use Rattle.ix_frame.specs.Target.{list_words};
-    ghost use Rattle.ix_frame.specs.Views.{object_of, elements_of, run_of, IsRun, number_elements, text_elements};
+    ghost use Rattle.ix_frame.specs.Views.{object_of, elements_of, run_of, IsRun, number_elements};
+    ghost use Rattle.ix_frame.specs.Views.{text_elements};
 
     /// The number in this data slot, 0 past the data section.
     #[tactic(auto, unfolding(crate::specs::Objects::u32_in))]
@@ -75,12 +77,14 @@ impl<'a> Obj<'a> {
                 != 0
     }
 
-    /// The struct behind this pointer, and one without words where the pointer is zero or past the pointer section.
-    /// Its words, at least 1, are taken from the budget, and nothing for the default. Else the first of F5, F4, F3
-    /// and F7, at the pointer's own word, and the budget is as before.
+    /// The struct behind this pointer, and one without words where the pointer is zero or past the
+    /// pointer section. Its words, at least 1, are taken from the budget, and nothing for the
+    /// default. Else the first of F5, F4, F3 and F7, at the pointer's own word, and the budget is
+    /// as before.
     #[tactic(auto, unfolding(crate::specs::Objects::struct_at))]
     pub fn obj(&self, slot: u32, budget: &mut Budget) -> Result<Obj<'a>, FrameFault>
-        ensures exact { Gives object_of result budget.old budget.new (struct_at (object_of self.now) slot budget.old) }
+        ensures exact { Gives object_of result budget.old budget.new
+            (struct_at (object_of self.now) slot budget.old) }
         ensures left { budget.new ≤ budget.old }
     {
         if slot < self.pointer_words as u32 {
@@ -93,13 +97,15 @@ impl<'a> Obj<'a> {
             Ok(no_struct(&self.segment))
         }
     }
-    /// The text behind this pointer, without the NUL that ends it: a slice of the file, empty where the pointer is zero
-    /// or past the pointer section (Cap'n Proto encoding specification, "Blobs"). The words of its bytes, rounded up,
-    /// at least 1, are taken from the budget, and nothing for the default. Else the first of F5, F4, F3, F7 and F6, at
-    /// the pointer's own word, and the budget is as before.
+    /// The text behind this pointer, without the NUL that ends it: a slice of the file, empty where
+    /// the pointer is zero or past the pointer section (Cap'n Proto encoding specification,
+    /// "Blobs"). The words of its bytes, rounded up, at least 1, are taken from the budget, and
+    /// nothing for the default. Else the first of F5, F4, F3, F7 and F6, at the pointer's own word,
+    /// and the budget is as before.
     #[tactic(auto, unfolding(crate::specs::Objects::text_at))]
     pub fn text(&self, slot: u32, budget: &mut Budget) -> Result<&'a str, FrameFault>
-        ensures exact { Gives (λ text. text.now) result budget.old budget.new (text_at (object_of self.now) slot budget.old) }
+        ensures exact { Gives (λ text. text.now) result budget.old budget.new
+            (text_at (object_of self.now) slot budget.old) }
         ensures left { budget.new ≤ budget.old }
         ensures short { IfOk result (λ text. length text.now + 8 * budget.new ≤ 8 * budget.old) }
     {
@@ -114,13 +120,14 @@ impl<'a> Obj<'a> {
         }
     }
 
-    /// The list of structs behind this pointer, a composite list; empty where the pointer is zero or past the pointer
-    /// section. Taken from the budget are 1 for its tag, its words, and its count where its elements have no word;
-    /// nothing for the default. Else the first of F5, F4, F3, F8 and F7, at the pointer's own word, and the budget is as
-    /// before.
+    /// The list of structs behind this pointer, a composite list; empty where the pointer is zero
+    /// or past the pointer section. Taken from the budget are 1 for its tag, its words, and its
+    /// count where its elements have no word; nothing for the default. Else the first of F5, F4,
+    /// F3, F8 and F7, at the pointer's own word, and the budget is as before.
     #[tactic(auto, unfolding(crate::specs::Objects::elements_at))]
     pub fn list(&self, slot: u32, budget: &mut Budget) -> Result<List<'a>, FrameFault>
-        ensures exact { Gives elements_of result budget.old budget.new (elements_at (object_of self.now) slot budget.old) }
+        ensures exact { Gives elements_of result budget.old budget.new
+            (elements_at (object_of self.now) slot budget.old) }
         ensures left { budget.new ≤ budget.old }
         ensures count { IfOk result (λ l. (elements_of l).count + budget.new ≤ budget.old) }
     {
@@ -138,7 +145,8 @@ impl<'a> Obj<'a> {
     /// The list of this element size behind a pointer.
     #[tactic(auto, unfolding(crate::specs::Objects::list_at))]
     fn run(&self, size: u32, slot: u32, budget: &mut Budget) -> Result<Run<'a>, FrameFault>
-        ensures exact { Gives run_of result budget.old budget.new (list_at size (object_of self.now) slot budget.old) }
+        ensures exact { Gives run_of result budget.old budget.new
+            (list_at size (object_of self.now) slot budget.old) }
         ensures left { budget.new ≤ budget.old }
         ensures words { IfOk result (λ l. list_words size l.count + budget.new ≤ budget.old) }
         ensures inside { IfOk result (IsRun size) }
@@ -155,13 +163,16 @@ impl<'a> Obj<'a> {
         }
     }
 
-    /// The list of numbers of 32 bits behind this pointer; empty where the pointer is zero or past the pointer section.
-    /// Its words, rounded up, at least 1, are taken from the budget, and nothing for the default. Else the first of F5,
-    /// F4, F3 and F7, at the pointer's own word, and the budget is as before.
+    /// The list of numbers of 32 bits behind this pointer; empty where the pointer is zero or past
+    /// the pointer section. Its words, rounded up, at least 1, are taken from the budget, and
+    /// nothing for the default. Else the first of F5, F4, F3 and F7, at the pointer's own word, and
+    /// the budget is as before.
     pub fn numbers(&self, slot: u32, budget: &mut Budget) -> Result<Numbers<'a>, FrameFault>
-        ensures exact { Gives number_elements result budget.old budget.new (list_at 4 (object_of self.now) slot budget.old) }
+        ensures exact { Gives number_elements result budget.old budget.new
+            (list_at 4 (object_of self.now) slot budget.old) }
         ensures left { budget.new ≤ budget.old }
-        ensures count { IfOk result (λ l. (number_elements l).count + 2 * budget.new ≤ 2 * budget.old) }
+        ensures count { IfOk result (λ l. (number_elements l).count + 2 * budget.new
+            ≤ 2 * budget.old) }
     {
         let run = self.run(4, slot, budget)?;
         Ok(Numbers {
@@ -171,11 +182,13 @@ impl<'a> Obj<'a> {
         })
     }
 
-    /// The list of texts behind this pointer; empty where the pointer is zero or past the pointer section. A word for
-    /// each text, at least 1 in all, is taken from the budget, and nothing for the default. Else the first of F5, F4, F3
-    /// and F7, at the pointer's own word, and the budget is as before.
+    /// The list of texts behind this pointer; empty where the pointer is zero or past the pointer
+    /// section. A word for each text, at least 1 in all, is taken from the budget, and nothing for
+    /// the default. Else the first of F5, F4, F3 and F7, at the pointer's own word, and the budget
+    /// is as before.
     pub fn texts(&self, slot: u32, budget: &mut Budget) -> Result<Texts<'a>, FrameFault>
-        ensures exact { Gives text_elements result budget.old budget.new (list_at 6 (object_of self.now) slot budget.old) }
+        ensures exact { Gives text_elements result budget.old budget.new
+            (list_at 6 (object_of self.now) slot budget.old) }
         ensures left { budget.new ≤ budget.old }
         ensures count { IfOk result (λ l. (text_elements l).count + budget.new ≤ budget.old) }
     {

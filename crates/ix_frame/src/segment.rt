@@ -22,7 +22,8 @@ impl<'a> Segment<'a> {
 
     /// The segment with this number.
     pub fn of(frame: &Frame<'a>, number: u32) -> Option<Segment<'a>>
-        ensures { MatchOption result (length (segments_of frame.now) ≤ number) (IsIn (segments_of frame.now) number) }
+        ensures { MatchOption result (length (segments_of frame.now) ≤ number)
+            (IsIn (segments_of frame.now) number) }
     {
         let last = LittleEndian::read_u32(frame.bytes);
         if last < number {
@@ -41,7 +42,8 @@ impl<'a> Segment<'a> {
 
     /// The segment with this number in the same file.
     pub fn other(&self, number: u32) -> Option<Segment<'a>>
-        ensures { MatchOption result (length (all_of self.now) ≤ number) (IsIn (all_of self.now) number) }
+        ensures { MatchOption result (length (all_of self.now) ≤ number)
+            (IsIn (all_of self.now) number) }
     {
         if number == self.number {
             Some(*self)
@@ -59,7 +61,8 @@ impl<'a> Segment<'a> {
 
     /// The segment with this number in the same file, where these words lie in it.
     pub fn holding(&self, number: u32, start: u32, words: u32) -> Option<Segment<'a>>
-        ensures { MatchOption result (has_words (all_of self.now) number start words ≡ false) (Holds (all_of self.now) number start words) }
+        ensures { MatchOption result (has_words (all_of self.now) number start words
+            ≡ false) (Holds (all_of self.now) number start words) }
     {
         let segment = self.other(number)?;
         if segment.has(start, words) {

@@ -1,6 +1,7 @@
 //! The table in front of a file's segments.
 
-ghost use Rattle.std.specs.Prelude.{◌≡◌, ◌+◌, ◌*◌, ◌<◌, ◌≤◌, ◌^◌, length, sum, take, drop, slice_index_or, []};
+ghost use Rattle.std.specs.Prelude.{◌≡◌, ◌+◌, ◌*◌, ◌<◌, ◌≤◌, ◌^◌, length, sum, take, drop};
+ghost use Rattle.std.specs.Prelude.{slice_index_or, []};
 ghost use Rattle.ix_frame.specs.Segments.{numbers_of_four, cut};
 
 use byteorder::{ByteOrder, LittleEndian};
@@ -42,7 +43,8 @@ pub fn part<'a>(table: &[u8], bytes: &'a [u8], count: u32, number: u32) -> &'a [
     requires whole { 4 * count ≤ length table.now }
     requires inside { 8 * sum (numbers_of_four count table.now) ≤ length bytes.now }
     requires there { number < count }
-    ensures part { result.now ≡ slice_index_or (cut (numbers_of_four count table.now) bytes.now) number [] }
+    ensures part { result.now ≡ slice_index_or (cut (numbers_of_four count table.now) bytes.now)
+        number [] }
     ensures short { length result.now ≤ length bytes.now }
 {
     let mut ahead = table;

@@ -3,14 +3,15 @@
 ghost use Rattle.std.specs.Prelude.{◌≡◌, ◌+◌, ◌*◌, ◌<◌, ◌≤◌, ◌^◌, length, IfOk};
 ghost use Rattle.std.specs.Option.{option_map};
 ghost use Rattle.ix_frame.specs.Result.{Finds};
-ghost use Rattle.ix_frame.specs.Target.{offset_from, near, through_one_word, through_two_words, target, placed};
+ghost use Rattle.ix_frame.specs.Target.{offset_from, near, through_one_word, through_two_words};
+ghost use Rattle.ix_frame.specs.Target.{target, placed};
 ghost use Rattle.ix_frame.specs.Views.{all_of, aim_of, IsPlace};
 
 use crate::segment::Segment;
 use ix_num::FrameRule;
 
-/// What a pointer leads to: the word that describes the object, its segment, and the word at which it begins,
-/// none where that is before the segment.
+/// What a pointer leads to: the word that describes the object, its segment, and the word at which
+/// it begins, none where that is before the segment.
 #[derive(Clone, Copy)]
 pub struct Aim {
     pub described: u64,
@@ -53,7 +54,8 @@ fn aim_near(segment: u32, word: u32, described: u64) -> Aim
     }
 }
 
-/// What a pad of one word leads to. F3 where it isn't there, F5 for a pad of kind 3, F4 for another far pointer.
+/// What a pad of one word leads to. F3 where it isn't there, F5 for a pad of kind 3, F4 for another
+/// far pointer.
 #[tactic(auto, unfolding(crate::specs::Target::through_one_word))]
 fn aim_through_one(from: &Segment<'_>, number: u32, word: u32) -> Result<Option<Aim>, FrameRule>
     requires { word < 2 ^ 29 }
@@ -75,8 +77,8 @@ fn aim_through_one(from: &Segment<'_>, number: u32, word: u32) -> Result<Option<
     Ok(Some(aim_near(number, word, pad)))
 }
 
-/// What a pad of two words leads to. F3 where it isn't there, F4 unless it is a far pointer with bit 2 clear and
-/// a tag of kind 0 or 1.
+/// What a pad of two words leads to. F3 where it isn't there, F4 unless it is a far pointer with
+/// bit 2 clear and a tag of kind 0 or 1.
 #[tactic(auto, unfolding(crate::specs::Target::through_two_words))]
 fn aim_through_two(from: &Segment<'_>, number: u32, word: u32) -> Result<Option<Aim>, FrameRule>
     requires { word < 2 ^ 29 }
@@ -103,8 +105,8 @@ fn aim_through_two(from: &Segment<'_>, number: u32, word: u32) -> Result<Option<
     }))
 }
 
-/// What the pointer at this word leads to, none where it is the default. F5 for a pointer of kind 3, and the
-/// faults of a pad.
+/// What the pointer at this word leads to, none where it is the default. F5 for a pointer of kind
+/// 3, and the faults of a pad.
 #[tactic(auto, unfolding(crate::specs::Target::target))]
 pub fn aim_at(from: &Segment<'_>, word: u32) -> Result<Option<Aim>, FrameRule>
     requires { 8 * (word + 1) ≤ length from.now.bytes.now }

@@ -62,7 +62,8 @@ fn put_list(text: &mut String, list: &List<'_>) -> Result<(), AllocError> {
     Ok(())
 }
 
-/// Follows the pointer in a slot of a struct as this call says, and writes what is found, or the fault.
+/// Follows the pointer in a slot of a struct as this call says, and writes what is found, or the
+/// fault.
 pub fn put_found(
     text: &mut String,
     call: &str,
@@ -96,7 +97,8 @@ pub fn put_found(
     }
 }
 
-/// Writes of some slots of the root the number, the Bool and the tag, and which of three pointers are there.
+/// Writes of some slots of the root the number, the Bool and the tag, and which of three pointers
+/// are there.
 pub fn put_slots(text: &mut String, frame: &Frame<'_>) -> Result<(), AllocError> {
     let Ok(root) = frame.root(&mut Budget::new(frame)) else {
         return text.push_str("no root");

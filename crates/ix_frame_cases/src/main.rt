@@ -1,9 +1,10 @@
-//! Tries frames: each case of `data/frames` is a file in hexadecimal digits and one call on it, and the answer is the value
-//! that is found or the fault, with what is left of the budget.
+//! Tries frames: each case of `data/frames` is a file in hexadecimal digits and one call on it, and
+//! the answer is the value that is found or the fault, with what is left of the budget.
 //!
-//! The fields of a case are what it shows, the call, the slot of the pointer that is followed, what is taken from the budget
-//! before, and the file: the table of its segments first, then each word. A frame of N words has a budget of 2 N + 64. The
-//! answers were worked out by hand from the encoding.
+//! The fields of a case are what it shows, the call, the slot of the pointer that is followed, what
+//! is taken from the budget before, and the file: the table of its segments first, then each word.
+//! A frame of N words has a budget of 2 N + 64. The answers were worked out by hand from the
+//! encoding.
 #![tactic(auto)]
 
 mod answer;

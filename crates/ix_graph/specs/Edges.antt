@@ -1,5 +1,6 @@
 -- The rows of edges, as they are counted and filled.
-use Rattle.std.specs.Prelude.{◌≡◌, ◌<◌, ◌+◌, ℕ, List, length, map, slice_get, Bool, Option, Some, option_map, if◌then◌else◌}
+use Rattle.std.specs.Prelude.{◌≡◌, ◌<◌, ◌+◌, ℕ, List, length, map, slice_get, Bool, Option, Some}
+use Rattle.std.specs.Prelude.{option_map, if◌then◌else◌}
 use Rattle.std.specs.List.{filter, AllByRecursion, sum_by}
 use Rattle.ix_rows.specs.Rows.{rows, row_of}
 use Rattle.ix_rows.specs.declared.rows.Rows.{Rows}
@@ -18,10 +19,12 @@ abbrev pub AreWithin : ℕ → List TilePip → Type 0
 AreWithin wires xs = AllByRecursion (λ x. (x.wire0 < wires) × (x.wire1 < wires)) xs
 
 -- each tile has the wires that its PIPs join, and these have nodes below a count
-pub record HaveNodes (wires : List (List ℕ)) (types : List (List TilePip)) (kinds : List ℕ) (count : ℕ) : Type 0 where
+pub record HaveNodes (wires : List (List ℕ)) (types : List (List TilePip)) (kinds : List ℕ)
+    (count : ℕ) : Type 0 where
   pub tiles : length wires ≡ length kinds
   pub kinds_stand : AreBelow (length types) kinds
-  pub within : (tile ty : ℕ) (ws : List ℕ) → slice_get kinds tile ≡ Some ty → slice_get wires tile ≡ Some ws → AreWithin (length ws) (pips_of_type types ty)
+  pub within : (tile ty : ℕ) (ws : List ℕ) → slice_get kinds tile ≡ Some ty
+      → slice_get wires tile ≡ Some ws → AreWithin (length ws) (pips_of_type types ty)
   pub below : AllByRecursion (AreBelow count) wires
 
 -- Within a tile, whose wires have these nodes.
@@ -49,7 +52,10 @@ edges_out ns n es = map (edge_in ns) (filter (goes_out ns n) es)
 
 -- Over all tiles.
 
--- the rows have the edges of these directed PIPs, each in the row of the node from which it goes, for so many nodes
-pub record AreRows (wires : List (List ℕ)) (pips : List DirectedPip) (count : ℕ) (table : Rows Edge) : Type 0 where
+-- the rows have the edges of these directed PIPs, each in the row of the node from which it goes,
+-- for so many nodes
+pub record AreRows (wires : List (List ℕ)) (pips : List DirectedPip) (count : ℕ) (table : Rows Edge)
+    : Type 0 where
   pub nodes : rows table ≡ count
-  pub edges : (n : ℕ) → map told (row_of table n) ≡ map (edge wires) (filter (goes_from wires n) pips)
+  pub edges : (n : ℕ) → map told (row_of table n)
+      ≡ map (edge wires) (filter (goes_from wires n) pips)

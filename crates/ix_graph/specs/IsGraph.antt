@@ -9,7 +9,8 @@ use Rattle.ix_graph.specs.Tables.{ArePips}
 use Rattle.ix_graph.specs.Edges.{HaveNodes, AreRows}
 
 -- Nodes have numbers of 32 bits; each has its row of edges, and its constant or none.
-pub record IsGraph (wires : List (List ℕ)) (firsts : List (ℕ × ℕ)) (pips : Pips) (rows : Rows Edge) (constants : List (Option Constant)) : Type 0 where
+pub record IsGraph (wires : List (List ℕ)) (firsts : List (ℕ × ℕ)) (pips : Pips) (rows : Rows Edge)
+    (constants : List (Option Constant)) : Type 0 where
   pub few : length firsts < 2 ^ 32
   pub tables : ArePips pips
   pub nodes : HaveNodes wires pips.types pips.kinds (length firsts)

@@ -1,13 +1,15 @@
-pub mod Boxes
+-- What public contracts say.
 pub mod Constants
-pub mod Edges
 pub mod Ends
 pub mod Graph
-pub mod IsGraph
-pub mod Marks
 pub mod Named
-pub mod NodeTables
 pub mod Nodes
 pub mod Pips
 pub mod Spans
 pub mod Tables
+-- For private contracts and proofs.
+pub mod Boxes
+pub mod Edges
+pub mod IsGraph
+pub mod Marks
+pub mod NodeTables

@@ -1,5 +1,6 @@
 -- Which constants are marked of nodes.
-use Rattle.std.specs.Prelude.{◌≡◌, ℕ, List, length, slice_get, Bool, false, ◌&&◌, ◌||◌, nat_eq, option_map, unwrap_or}
+use Rattle.std.specs.Prelude.{◌≡◌, ℕ, List, length, slice_get, Bool, false, ◌&&◌, ◌||◌, nat_eq}
+use Rattle.std.specs.Prelude.{option_map, unwrap_or}
 use Rattle.std.specs.List.{list_any}
 use Rattle.ix_num.specs.declared.resource.Constant.{Constant}
 use Rattle.ix_num.specs.declared.resource.Constant.TheVariants.{Gnd, Vcc}
@@ -28,9 +29,11 @@ pub record Adds (more : Constant → ℕ → Bool) (before now : List Carried) :
   pub count : length now ≡ length before
   pub marks : (c : Constant) (n : ℕ) → is_marked c now n ≡ (is_marked c before n || more c n)
 
--- an entry with this constant lists a wire of this node, where these are the nodes of the tile's wires
+-- an entry with this constant lists a wire of this node, where these are the nodes of the tile's
+-- wires
 abbrev pub entry_marks : Constant → List ℕ → ℕ → WireConstantSources → Bool
-entry_marks c ns n s = list_any (λ w. is_constant c s.constant && is_node n (slice_get ns w)) s.wires
+entry_marks c ns n s = list_any (λ w. is_constant c s.constant && is_node n (slice_get ns w))
+    s.wires
 
 -- a tile type lists a wire of this node with this constant
 abbrev pub type_marks : Constant → List ℕ → ℕ → TileType → Bool
@@ -42,4 +45,5 @@ listed_in rec c n w = nat_eq (node_of rec w) n && is_listed rec c w
 
 -- a node source names a wire of this node with this constant
 abbrev pub source_marks : DeviceRec → Constant → ℕ → NodeConstantSource → Bool
-source_marks rec c n s = is_constant c s.constant && is_node n (option_map (node_of rec) (tile_wire_named rec s.tile s.wire))
+source_marks rec c n s = is_constant c s.constant
+    && is_node n (option_map (node_of rec) (tile_wire_named rec s.tile s.wire))

@@ -1,5 +1,6 @@
 -- What the nodes are numbered by: a table for each tile, and the first wires of the nodes so far.
-use Rattle.std.specs.Prelude.{◌≡◌, ◌<◌, ℕ, List, ◌++◌, take, slice_get, Option, Some, option_and_then}
+use Rattle.std.specs.Prelude.{◌≡◌, ◌<◌, ℕ, List, ◌++◌, take, slice_get, Option, Some}
+use Rattle.std.specs.Prelude.{option_and_then}
 use Rattle.std.specs.List.{flat_map, filter, position}
 use Rattle.ix_first.specs.declared.by_id.FirstById.{FirstById}
 use Rattle.ix_first.specs.First.{value_of}
@@ -12,8 +13,11 @@ abbrev pub number_in : List (FirstById ℕ) → ℕ × ℕ → Option (Option �
 number_in tables w = option_and_then (λ table. value_of table w.1) (slice_get tables w.0)
 
 -- Each tile wire has the number of the first of these entries that names it.
-pub record HaveNumbers (rec : DeviceRec) (tables : List (FirstById ℕ)) (es : List (List (ℕ × ℕ))) : Type 0 where
-  pub each : (tile : ℕ) (t : Tile) (wire : ℕ) → slice_get rec.tile_list tile ≡ Some t → wire < wire_count rec t → number_in tables (tile, wire) ≡ Some (position (has_wire (tile, wire)) es)
+pub record HaveNumbers (rec : DeviceRec) (tables : List (FirstById ℕ)) (es : List (List (ℕ × ℕ)))
+    : Type 0 where
+  pub each : (tile : ℕ) (t : Tile) (wire : ℕ) → slice_get rec.tile_list tile ≡ Some t
+      → wire < wire_count rec t → number_in tables (tile, wire)
+      ≡ Some (position (has_wire (tile, wire)) es)
 
 -- the wires of the tiles before the one of this number
 abbrev pub wires_before : DeviceRec → ℕ → List (ℕ × ℕ)

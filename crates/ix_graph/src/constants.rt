@@ -6,7 +6,8 @@ ghost use Rattle.ix_num.specs.declared.resource.Constant.{Constant as ConstantSe
 ghost use Rattle.ix_device.specs.Sources.{is_constant, node_sources_of};
 ghost use Rattle.ix_graph.specs.Nodes.{AreBelow, nodes, nodes_from, tile_wires};
 ghost use Rattle.ix_graph.specs.Constants.{carries, constant_of_node, only_constant};
-ghost use Rattle.ix_graph.specs.Marks.{Adds, is_marked, entry_marks, type_marks, listed_in, source_marks};
+ghost use Rattle.ix_graph.specs.Marks.{Adds, is_marked, entry_marks, type_marks, listed_in};
+ghost use Rattle.ix_graph.specs.Marks.{source_marks};
 
 use ix_device::Device;
 use ix_num::{Constant, Memory, NodeId};
@@ -35,7 +36,8 @@ fn mark(marks: &mut [Carried], node: NodeId, constant: ConstantPreference)
     }
 }
 
-// Marks the nodes of the wires of an entry of a tile's type. The nodes are those of the tile's wires.
+// Marks the nodes of the wires of an entry of a tile's type. The nodes are those of the tile's
+// wires.
 fn mark_entry(marks: &mut [Carried], nodes: &Items<NodeId>, entry: &WireConstantSources)
     requires nodes { AreBelow (length marks.now) nodes.now }
     requires wires { AllByRecursion (λ w. w < length nodes.now) entry.now.wires }
@@ -50,7 +52,8 @@ fn mark_entry(marks: &mut [Carried], nodes: &Items<NodeId>, entry: &WireConstant
 // Marks the nodes of the wires that a tile's type lists.
 fn mark_tile(marks: &mut [Carried], nodes: &Items<NodeId>, ty: &TileType)
     requires nodes { AreBelow (length marks.now) nodes.now }
-    requires wires { AllByRecursion (λ e. AllByRecursion (λ w. w < length nodes.now) e.wires) ty.now.constants }
+    requires wires { AllByRecursion (λ e. AllByRecursion (λ w. w < length nodes.now) e.wires)
+        ty.now.constants }
     ensures { Adds (λ c n. type_marks c nodes.now n ty.now) marks.old marks.new }
 {
     for i in 0..ty.constants.len() {
@@ -62,7 +65,8 @@ fn mark_tile(marks: &mut [Carried], nodes: &Items<NodeId>, ty: &TileType)
 fn mark_tiles(marks: &mut [Carried], device: &Device, wires: &Items<Items<NodeId>>)
     requires wires { wires.now ≡ nodes_from device.now 0 device.now.tile_list }
     requires below { AllByRecursion (AreBelow (length marks.now)) wires.now }
-    ensures { Adds (λ c n. list_any (listed_in device.now c n) (tile_wires device.now)) marks.old marks.new }
+    ensures { Adds (λ c n. list_any (listed_in device.now c n) (tile_wires device.now)) marks.old
+        marks.new }
 {
     let rec = device.rec();
     for i in 0..rec.tile_list.len() {
@@ -108,7 +112,8 @@ fn mark_sources(
 fn mark_named(marks: &mut [Carried], device: &Device, wires: &Items<Items<NodeId>>)
     requires wires { wires.now ≡ nodes_from device.now 0 device.now.tile_list }
     requires below { AllByRecursion (AreBelow (length marks.now)) wires.now }
-    ensures { Adds (λ c n. list_any (source_marks device.now c n) (node_sources_of device.now)) marks.old marks.new }
+    ensures { Adds (λ c n. list_any (source_marks device.now c n) (node_sources_of device.now))
+        marks.old marks.new }
 {
     if let Some(constants) = &device.rec().constants {
         mark_sources(marks, device, wires, &constants.node_sources);
@@ -128,7 +133,8 @@ fn mark_all(marks: &mut [Carried], device: &Device, wires: &Items<Items<NodeId>>
 // Marks for so many nodes, none of which carries a constant yet.
 fn no_marks(alloc: Global, count: usize) -> Result<Vec<Carried>, Memory>
     ensures count { IfOk result (λ marks. length marks.items ≡ count) }
-    ensures none { IfOk result (λ marks. (c : ConstantSeen) (n : ℕ) → is_marked c marks.items n ≡ false) }
+    ensures none { IfOk result (λ marks. (c : ConstantSeen) (n : ℕ)
+        → is_marked c marks.items n ≡ false) }
 {
     let mut marks = Vec::new(alloc);
     marks.resize(
@@ -154,7 +160,8 @@ fn only_constant(carried: Carried) -> Option<Constant>
 
 // The constant of each node, by its marks.
 fn only_constants(alloc: Global, marks: &[Carried]) -> Result<Items<Option<Constant>>, Memory>
-    ensures { IfOk result (λ constants. constants ≡ map (λ m. only_constant m.gnd m.vcc) marks.now) }
+    ensures { IfOk result (λ constants. constants
+        ≡ map (λ m. only_constant m.gnd m.vcc) marks.now) }
 {
     let mut constants = Items::with_capacity(alloc, marks.len())?;
     for i in 0..marks.len() {
@@ -163,8 +170,8 @@ fn only_constants(alloc: Global, marks: &[Carried]) -> Result<Items<Option<Const
     Ok(constants)
 }
 
-/// The constant of each node, of which there are `count`; none where a node carries none or both. `Memory` is the only
-/// error.
+/// The constant of each node, of which there are `count`; none where a node carries none or both.
+/// `Memory` is the only error.
 pub(crate) fn constants_of(
     alloc: Global,
     device: &Device,
@@ -174,7 +181,8 @@ pub(crate) fn constants_of(
     requires wires { wires.now ≡ nodes_from device.now 0 device.now.tile_list }
     requires below { AllByRecursion (AreBelow count) wires.now }
     requires count { count ≡ length (nodes device.now) }
-    ensures { IfOk result (λ constants. constants ≡ map (constant_of_node device.now) (range_with_len 0 count)) }
+    ensures { IfOk result (λ constants. constants
+        ≡ map (constant_of_node device.now) (range_with_len 0 count)) }
 {
     let mut marks = no_marks(alloc, count)?;
     mark_all(&mut marks, device, wires);

@@ -1,13 +1,15 @@
 //! The edges of a graph: the directed PIPs out of each node.
 
-ghost use Rattle.std.specs.Prelude.{◌≡◌, ◌<◌, ◌≤◌, ◌+◌, ◌*◌, ◌^◌, ◌++◌, ℕ, Some, [], length, map, slice_get, IfOk};
+ghost use Rattle.std.specs.Prelude.{◌≡◌, ◌<◌, ◌≤◌, ◌+◌, ◌*◌, ◌^◌, ◌++◌, ℕ, Some, [], length, map};
+ghost use Rattle.std.specs.Prelude.{slice_get, IfOk};
 ghost use Rattle.std.specs.List.{filter};
 ghost use Rattle.ix_rows.specs.Rows.{row_count, size_of, total_size, filler_rows, room_in, row_in};
 ghost use Rattle.ix_graph.specs.Pips.{ways, ways_in, ways_from};
 ghost use Rattle.ix_graph.specs.Graph.{goes_from, edge};
 ghost use Rattle.ix_graph.specs.Tables.{ArePips};
 ghost use Rattle.ix_graph.specs.Nodes.{AreBelow};
-ghost use Rattle.ix_graph.specs.Edges.{told, AreWithin, HaveNodes, outs, all_outs, edges_out, AreRows};
+ghost use Rattle.ix_graph.specs.Edges.{told, AreWithin, HaveNodes, outs, all_outs, edges_out};
+ghost use Rattle.ix_graph.specs.Edges.{AreRows};
 
 use crate::pips::Pips;
 use crate::type_pips::TilePip;
@@ -50,7 +52,8 @@ fn count_tile(sizes: &mut RowSizes, pips: &Items<TilePip>, nodes: &Items<NodeId>
     requires within { AreWithin (length nodes.now) pips.now }
     requires below { AreBelow (row_count sizes.now) nodes.now }
     requires few { total_size sizes.now + 2 * length pips.now < 2 ^ 32 }
-    ensures sizes { (n : ℕ) → size_of sizes.new n ≡ size_of sizes.old n + all_outs nodes.now n pips.now }
+    ensures sizes { (n : ℕ) → size_of sizes.new n
+        ≡ size_of sizes.old n + all_outs nodes.now n pips.now }
     ensures total { total_size sizes.new ≤ total_size sizes.old + 2 * length pips.now }
     ensures rows { row_count sizes.new ≡ row_count sizes.old }
 {
@@ -64,7 +67,9 @@ fn count_tiles(sizes: &mut RowSizes, pips: &Pips, wires: &Items<Items<NodeId>>)
     requires tables { ArePips pips.now }
     requires nodes { HaveNodes wires.now pips.now.types pips.now.kinds (row_count sizes.now) }
     requires none { total_size sizes.now ≡ 0 }
-    ensures sizes { (n : ℕ) → size_of sizes.new n ≡ size_of sizes.old n + length (filter (goes_from wires.now n) (ways_from pips.now.types 0 0 pips.now.kinds)) }
+    ensures sizes { (n : ℕ) → size_of sizes.new n
+        ≡ size_of sizes.old n + length (filter (goes_from wires.now n)
+        (ways_from pips.now.types 0 0 pips.now.kinds)) }
     ensures rows { row_count sizes.new ≡ row_count sizes.old }
 {
     for tile in 0..pips.kinds.len() {
@@ -79,8 +84,10 @@ fn fill_pip(filler: &mut RowFiller<Edge>, number: u32, pip: TilePip, nodes: &Ite
     requires wire1 { pip.wire1 < length nodes.now }
     requires below { AreBelow (filler_rows filler.now) nodes.now }
     requires few { 2 * number + 1 < 2 ^ 32 }
-    requires room { (n : ℕ) → length (row_in filler.now n) + outs nodes.now n pip ≤ room_in filler.now n }
-    ensures edges { (tile n : ℕ) → map told (row_in filler.new n) ≡ map told (row_in filler.old n) ++ edges_out nodes.now n (ways tile number pip) }
+    requires room { (n : ℕ) → length (row_in filler.now n) + outs nodes.now n pip
+        ≤ room_in filler.now n }
+    ensures edges { (tile n : ℕ) → map told (row_in filler.new n)
+        ≡ map told (row_in filler.old n) ++ edges_out nodes.now n (ways tile number pip) }
     ensures room { (n : ℕ) → room_in filler.new n ≡ room_in filler.old n }
     ensures rows { filler_rows filler.new ≡ filler_rows filler.old }
 {
@@ -105,8 +112,10 @@ fn fill_tile(filler: &mut RowFiller<Edge>, first: u32, pips: &Items<TilePip>, no
     requires within { AreWithin (length nodes.now) pips.now }
     requires below { AreBelow (filler_rows filler.now) nodes.now }
     requires few { 2 * (first + length pips.now) < 2 ^ 32 }
-    requires room { (n : ℕ) → length (row_in filler.now n) + all_outs nodes.now n pips.now ≤ room_in filler.now n }
-    ensures edges { (tile n : ℕ) → map told (row_in filler.new n) ≡ map told (row_in filler.old n) ++ edges_out nodes.now n (ways_in tile first pips.now) }
+    requires room { (n : ℕ) → length (row_in filler.now n) + all_outs nodes.now n pips.now
+        ≤ room_in filler.now n }
+    ensures edges { (tile n : ℕ) → map told (row_in filler.new n)
+        ≡ map told (row_in filler.old n) ++ edges_out nodes.now n (ways_in tile first pips.now) }
     ensures room { (n : ℕ) → room_in filler.new n ≡ room_in filler.old n }
     ensures rows { filler_rows filler.new ≡ filler_rows filler.old }
 {
@@ -120,8 +129,11 @@ fn fill_tiles(filler: &mut RowFiller<Edge>, pips: &Pips, wires: &Items<Items<Nod
     requires tables { ArePips pips.now }
     requires nodes { HaveNodes wires.now pips.now.types pips.now.kinds (filler_rows filler.now) }
     requires empty { (n : ℕ) → row_in filler.now n ≡ [] }
-    requires room { (n : ℕ) → room_in filler.now n ≡ length (filter (goes_from wires.now n) (ways_from pips.now.types 0 0 pips.now.kinds)) }
-    ensures edges { (n : ℕ) → map told (row_in filler.new n) ≡ map (edge wires.now) (filter (goes_from wires.now n) (ways_from pips.now.types 0 0 pips.now.kinds)) }
+    requires room { (n : ℕ) → room_in filler.now n
+        ≡ length (filter (goes_from wires.now n) (ways_from pips.now.types 0 0 pips.now.kinds)) }
+    ensures edges { (n : ℕ) → map told (row_in filler.new n)
+        ≡ map (edge wires.now) (filter (goes_from wires.now n)
+        (ways_from pips.now.types 0 0 pips.now.kinds)) }
     ensures room { (n : ℕ) → room_in filler.new n ≡ room_in filler.old n }
     ensures rows { filler_rows filler.new ≡ filler_rows filler.old }
 {

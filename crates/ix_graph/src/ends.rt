@@ -3,7 +3,13 @@
 ghost use Rattle.std.specs.Prelude.{◌≡◌, ◌<◌, length, slice_get, Some, IfSome};
 ghost use Rattle.ix_device.specs.Lookups.{sites_of};
 ghost use Rattle.ix_graph.specs.Graph.{graph_of};
-ghost use Rattle.ix_graph.specs.Ends.{bel_pin_named as bel_pin_seen, wire_at as wire_seen, node_of_pin as node_seen, both, bel_pin_ends as bel_pin_ends_seen, site_pin_ends as site_pin_ends_seen, site_pip_ends as site_pip_ends_seen, named_pip_ends as named_pip_ends_seen, ends_in_site, of_site, ends};
+ghost use Rattle.ix_graph.specs.Ends.{bel_pin_named as bel_pin_seen, wire_at as wire_seen};
+ghost use Rattle.ix_graph.specs.Ends.{node_of_pin as node_seen, both};
+ghost use Rattle.ix_graph.specs.Ends.{bel_pin_ends as bel_pin_ends_seen};
+ghost use Rattle.ix_graph.specs.Ends.{site_pin_ends as site_pin_ends_seen};
+ghost use Rattle.ix_graph.specs.Ends.{site_pip_ends as site_pip_ends_seen};
+ghost use Rattle.ix_graph.specs.Ends.{named_pip_ends as named_pip_ends_seen, ends_in_site, of_site};
+ghost use Rattle.ix_graph.specs.Ends.{ends};
 
 use crate::graph::NodeGraph;
 use ix_device::Device;
@@ -14,7 +20,8 @@ use ix_rec::{BranchKind, Direction, Segment};
 fn bel_pin_named(device: &Device, t: SiteTypeId, bel: NameId, pin: NameId) -> Option<BelPinId>
     requires { t < length device.now.site_type_list }
     ensures pin { result ≡ bel_pin_seen device.now t bel pin }
-    ensures inside { IfSome result (λ p. IfSome (slice_get device.now.site_type_list t) (λ ty. p < length ty.bel_pins)) }
+    ensures inside { IfSome result (λ p. IfSome (slice_get device.now.site_type_list t) (λ ty.
+        p < length ty.bel_pins)) }
 {
     let bel = device.bel(t, bel)?;
     device.bel_pin(t, bel, pin)
@@ -107,7 +114,8 @@ impl NodeGraph {
     // The first PIP of these names goes between the nodes of its wires.
     fn named_pip_ends(&self, device: &Device, segment: &Segment) -> Option<(Res, Res)>
         requires graph { self.now ≡ graph_of device.now }
-        ensures { result ≡ named_pip_ends_seen device.now segment.now.first segment.now.second segment.now.third segment.now.forward }
+        ensures { result ≡ named_pip_ends_seen device.now segment.now.first segment.now.second
+            segment.now.third segment.now.forward }
     {
         let tile = device.tile(segment.first)?;
         let pip = self.pip_named(device, tile, segment.second, segment.third, segment.forward)?;
@@ -118,7 +126,8 @@ impl NodeGraph {
     // The ends of a segment in the site of its name.
     fn site_ends(&self, device: &Device, segment: &Segment) -> Option<(Res, Res)>
         requires graph { self.now ≡ graph_of device.now }
-        ensures { result ≡ of_site device.now segment.now.first (ends_in_site segment.now.kind device.now segment.now.second segment.now.third) }
+        ensures { result ≡ of_site device.now segment.now.first
+            (ends_in_site segment.now.kind device.now segment.now.second segment.now.third) }
     {
         let site = device.site(segment.first)?;
         let t = device.type_of(site);
@@ -130,10 +139,11 @@ impl NodeGraph {
         }
     }
 
-    /// The two ends of a segment; none exactly where it names what isn't there, where its BEL pin, its site pin's BEL pin or
-    /// a pin of its site PIP is in no site wire, at an inout site pin, where no conventional PIP of its wires goes this way,
-    /// and where no site PIP leads from its pin, or the first that does is from an inverting pin or of a BEL that isn't for
-    /// routing. The device is the one from which the graph was built.
+    /// The two ends of a segment; none exactly where it names what isn't there, where its BEL pin,
+    /// its site pin's BEL pin or a pin of its site PIP is in no site wire, at an inout site pin,
+    /// where no conventional PIP of its wires goes this way, and where no site PIP leads from its
+    /// pin, or the first that does is from an inverting pin or of a BEL that isn't for routing. The
+    /// device is the one from which the graph was built.
     pub fn ends(&self, device: &Device, segment: &Segment) -> Option<(Res, Res)>
         requires graph { self.now ≡ graph_of device.now }
         ensures { result ≡ ends device.now segment.now }

@@ -1,10 +1,12 @@
 //! The nodes of a device.
 
-ghost use Rattle.std.specs.Prelude.{◌≡◌, ◌<◌, ◌+◌, ◌++◌, ◌∷◌, ℕ, [], nat_eq, if◌then◌else◌, length, map, take, slice_get, option_map, Some, IfOk, OnOk, IfSome};
+ghost use Rattle.std.specs.Prelude.{◌≡◌, ◌<◌, ◌+◌, ◌++◌, ◌∷◌, ℕ, [], nat_eq, if◌then◌else◌, length};
+ghost use Rattle.std.specs.Prelude.{map, take, slice_get, option_map, Some, IfOk, OnOk, IfSome};
 ghost use Rattle.std.specs.List.{AllByRecursion, flat_map, position};
 ghost use Rattle.ix_first.specs.First.{value_of, or_later};
 ghost use Rattle.ix_rec.specs.declared.device.Tile.{Tile as TileSeen};
-ghost use Rattle.ix_graph.specs.Nodes.{is_wire, has_wire, entries, entry_wires, node_of, wires_in, wire_count, nodes, nodes_from, first_wires};
+ghost use Rattle.ix_graph.specs.Nodes.{is_wire, has_wire, entries, entry_wires, node_of, wires_in};
+ghost use Rattle.ix_graph.specs.Nodes.{wire_count, nodes, nodes_from, first_wires};
 ghost use Rattle.ix_graph.specs.NodeTables.{number_in, HaveNumbers, wires_before, firsts_with};
 
 use ix_device::Device;
@@ -43,16 +45,19 @@ fn empty_tables(alloc: Global, device: &Device) -> Result<Vec<FirstById<NodeId>>
     Ok(tables)
 }
 
-// Puts the number of a node under one of its wires. It is the node's first wire where only the nodes before it have
-// theirs.
+// Puts the number of a node under one of its wires. It is the node's first wire where only the
+// nodes before it have theirs.
 fn put_wire(
     tables: &mut [FirstById<NodeId>],
     firsts: &mut Items<(TileId, u32)>,
     wire: (TileId, u32),
     node: NodeId,
 ) -> Result<(), Memory>
-    ensures tables { OnOk result ((w : ℕ × ℕ) → number_in tables.new w ≡ option_map (λ o. or_later o (is_wire w wire) node) (number_in tables.old w)) }
-    ensures firsts { OnOk result (firsts.new ≡ firsts.old ++ (if nat_eq (length firsts.old) node then wire ∷ [] else [])) }
+    ensures tables { OnOk result ((w : ℕ × ℕ)
+        → number_in tables.new w ≡ option_map (λ o. or_later o (is_wire w wire) node)
+        (number_in tables.old w)) }
+    ensures firsts { OnOk result (firsts.new
+        ≡ firsts.old ++ (if nat_eq (length firsts.old) node then wire ∷ [] else [])) }
 {
     let tile = wire.0.get() as usize;
     if tile < tables.len() {
@@ -64,8 +69,8 @@ fn put_wire(
     Ok(())
 }
 
-// Puts the number of an entry under each of its wires, and its first wire after those of the nodes before it. An entry
-// without a tile wire takes no number.
+// Puts the number of an entry under each of its wires, and its first wire after those of the nodes
+// before it. An entry without a tile wire takes no number.
 fn put_entry(
     device: &Device,
     entry: &Node,
@@ -73,8 +78,12 @@ fn put_entry(
     firsts: &mut Items<(TileId, u32)>,
 ) -> Result<(), Memory>
     requires { AllByRecursion (λ w. w < length device.now.wires) entry.now.wires }
-    ensures tables { OnOk result ((w : ℕ × ℕ) → number_in tables.new w ≡ option_map (λ o. or_later o (has_wire w (entry_wires device.now entry.now)) (length firsts.old)) (number_in tables.old w)) }
-    ensures firsts { OnOk result (firsts.new ≡ firsts.old ++ take 1 (entry_wires device.now entry.now)) }
+    ensures tables { OnOk result ((w : ℕ × ℕ)
+        → number_in tables.new w ≡ option_map (λ o.
+        or_later o (has_wire w (entry_wires device.now entry.now)) (length firsts.old))
+        (number_in tables.old w)) }
+    ensures firsts { OnOk result (firsts.new
+        ≡ firsts.old ++ take 1 (entry_wires device.now entry.now)) }
 {
     let rec = device.rec();
     let node = next_node(firsts.len())?;
@@ -114,10 +123,14 @@ fn nodes_of_tile(
     firsts: &mut Items<(TileId, u32)>,
 ) -> Result<Items<NodeId>, Memory>
     requires tile { tile < length device.now.tile_list }
-    requires table { (t : TileSeen) (wire : ℕ) → slice_get device.now.tile_list tile ≡ Some t → wire < wire_count device.now t → value_of table.now wire ≡ Some (position (has_wire (tile, wire)) (entries device.now)) }
+    requires table { (t : TileSeen) (wire : ℕ) → slice_get device.now.tile_list tile ≡ Some t
+        → wire < wire_count device.now t → value_of table.now wire
+        ≡ Some (position (has_wire (tile, wire)) (entries device.now)) }
     requires firsts { firsts.old ≡ firsts_with device.now (wires_before device.now tile) }
-    ensures nodes { IfOk result (λ ns. IfSome (slice_get device.now.tile_list tile) (λ t. ns ≡ map (node_of device.now) (wires_in tile (wire_count device.now t)))) }
-    ensures firsts { OnOk result (firsts.new ≡ firsts_with device.now (wires_before device.now (tile + 1))) }
+    ensures nodes { IfOk result (λ ns. IfSome (slice_get device.now.tile_list tile) (λ t. ns
+        ≡ map (node_of device.now) (wires_in tile (wire_count device.now t)))) }
+    ensures firsts { OnOk result (firsts.new
+        ≡ firsts_with device.now (wires_before device.now (tile + 1))) }
 {
     let rec = device.rec();
     let ty = rec
@@ -156,12 +169,13 @@ fn nodes_of_tiles(
     Ok(wires)
 }
 
-/// The nodes of a device. `Memory` is its only error, and is told too where there are 2^32 nodes or more, of which a
-/// valid device has fewer.
+/// The nodes of a device. `Memory` is its only error, and is told too where there are 2^32 nodes or
+/// more, of which a valid device has fewer.
 pub(crate) fn nodes_of(alloc: Global, device: &Device) -> Result<Nodes, Memory>
     ensures wires { IfOk result (λ n. n.wires ≡ nodes_from device.now 0 device.now.tile_list) }
     ensures firsts { IfOk result (λ n. n.firsts ≡ first_wires device.now) }
-    ensures inside { IfOk result (λ n. AllByRecursion (λ ws. AllByRecursion (λ m. m < length n.firsts) ws) n.wires) }
+    ensures inside { IfOk result (λ n. AllByRecursion (λ ws.
+        AllByRecursion (λ m. m < length n.firsts) ws) n.wires) }
     ensures count { IfOk result (λ n. length n.firsts ≡ length (nodes device.now)) }
 {
     let mut tables = empty_tables(alloc, device)?;

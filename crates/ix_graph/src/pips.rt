@@ -1,13 +1,15 @@
 //! The PIPs of a device by number, and by the wires that they join.
 
-ghost use Rattle.std.specs.Prelude.{◌≡◌, ◌<◌, ◌≤◌, ◌+◌, ◌*◌, ◌^◌, ◌&&◌, Some, map, length, take, not, nat_eq, option_map, IfOk, OnOk, IsSome};
+ghost use Rattle.std.specs.Prelude.{◌≡◌, ◌<◌, ◌≤◌, ◌+◌, ◌*◌, ◌^◌, ◌&&◌, Some, map, length, take};
+ghost use Rattle.std.specs.Prelude.{not, nat_eq, option_map, IfOk, OnOk, IsSome};
 ghost use Rattle.std.specs.List.{find, position};
 ghost use Rattle.std.specs.List.Sorted.{IsPartitionPoint};
 ghost use Rattle.ix_keys.specs.declared.key.Key.{Key as KeySeen};
 ghost use Rattle.ix_keys.specs.Keys.{key, key_eq};
 ghost use Rattle.ix_first.specs.First.{value_at, or_later, or_found};
 ghost use Rattle.ix_graph.specs.Pips.{conventional, pips_of_type, ways_from};
-ghost use Rattle.ix_graph.specs.Tables.{joins, joins_back, goes, joins_at, way_number, pip_count, AreStarts, AreForward, AreBackward, ArePips};
+ghost use Rattle.ix_graph.specs.Tables.{joins, joins_back, goes, joins_at, way_number, pip_count};
+ghost use Rattle.ix_graph.specs.Tables.{AreStarts, AreForward, AreBackward, ArePips};
 
 use crate::type_pips::{TilePip, pips_of_types};
 use ix_first::{FirstByKey, number_of};
@@ -16,7 +18,8 @@ use ix_num::{Memory, PipId, TileId};
 use ix_rec::{DeviceRec, Items, Tile};
 use std::alloc::Global;
 
-/// The conventional PIPs of a device's tiles. They are numbered by tile, then by place in the tile's type.
+/// The conventional PIPs of a device's tiles. They are numbered by tile, then by place in the
+/// tile's type.
 #[derive(Drop)]
 pub(crate) struct Pips {
     /// The type of each tile.
@@ -25,8 +28,8 @@ pub(crate) struct Pips {
     pub types: Items<Items<TilePip>>,
     /// The number of each tile's first PIP.
     pub starts: Items<u32>,
-    /// The first PIP of a tile type between two wires, as a place among the type's conventional PIPs, under the type's
-    /// number and the wires' places.
+    /// The first PIP of a tile type between two wires, as a place among the type's conventional
+    /// PIPs, under the type's number and the wires' places.
     pub forward: FirstByKey<u32>,
     /// The same of those that aren't directional.
     pub backward: FirstByKey<u32>,
@@ -94,7 +97,8 @@ fn put_backward(
     place: u32,
     directional: bool,
 ) -> Result<(), Memory>
-    ensures { OnOk result ((q : KeySeen) → value_at table.new q ≡ or_later (value_at table.old q) (key_eq key q && not directional) place) }
+    ensures { OnOk result ((q : KeySeen) → value_at table.new q
+        ≡ or_later (value_at table.old q) (key_eq key q && not directional) place) }
 {
     if !directional {
         table.put(key, place)?;
@@ -109,8 +113,12 @@ fn put_pips(
     ty: u32,
     pips: &Items<TilePip>,
 ) -> Result<(), Memory>
-    ensures forward { OnOk result ((q : KeySeen) → value_at forward.new q ≡ or_found (value_at forward.old q) (nat_eq ty q.owner) (position (joins q.part q.name) pips.now)) }
-    ensures backward { OnOk result ((q : KeySeen) → value_at backward.new q ≡ or_found (value_at backward.old q) (nat_eq ty q.owner) (position (joins_back q.part q.name) pips.now)) }
+    ensures forward { OnOk result ((q : KeySeen)
+        → value_at forward.new q ≡ or_found (value_at forward.old q) (nat_eq ty q.owner)
+        (position (joins q.part q.name) pips.now)) }
+    ensures backward { OnOk result ((q : KeySeen)
+        → value_at backward.new q ≡ or_found (value_at backward.old q) (nat_eq ty q.owner)
+        (position (joins_back q.part q.name) pips.now)) }
 {
     for i in 0..pips.len() {
         let place = number_of(i)?;
@@ -122,7 +130,8 @@ fn put_pips(
     Ok(())
 }
 
-// The places of the first PIPs of tile types between two wires, under the type's number and the wires.
+// The places of the first PIPs of tile types between two wires, under the type's number and the
+// wires.
 #[derive(Drop)]
 struct FirstPips {
     // Those that go from the one wire to the other.
@@ -144,11 +153,12 @@ fn first_pips(alloc: Global, types: &Items<Items<TilePip>>) -> Result<FirstPips,
     Ok(FirstPips { forward, backward })
 }
 
-/// The PIPs of a device. `Memory` is its only error, and is told too where there are 2^31 conventional PIPs or 2^32 tiles or
-/// more, of which a valid device has fewer.
+/// The PIPs of a device. `Memory` is its only error, and is told too where there are 2^31
+/// conventional PIPs or 2^32 tiles or more, of which a valid device has fewer.
 pub(crate) fn pips_of(alloc: Global, rec: &DeviceRec) -> Result<Pips, Memory>
     ensures kinds { IfOk result (λ p. p.kinds ≡ map (λ t. t.ty) rec.now.tile_list) }
-    ensures types { IfOk result (λ p. p.types ≡ map (λ ty. conventional ty.pips) rec.now.tile_type_list) }
+    ensures types { IfOk result (λ p. p.types
+        ≡ map (λ ty. conventional ty.pips) rec.now.tile_type_list) }
     ensures tables { IfOk result ArePips }
 {
     let kinds = kinds_of(alloc, &rec.tile_list)?;
@@ -181,7 +191,8 @@ impl Pips {
     fn begun(&self, number: u32) -> usize
         requires { ArePips self.now }
         ensures most { result ≤ length self.now.kinds }
-        ensures point { IsPartitionPoint (λ start. start ≤ number) (λ start. number < start) self.now.starts result }
+        ensures point { IsPartitionPoint (λ start. start ≤ number) (λ start.
+            number < start) self.now.starts result }
     {
         let starts = self.starts.as_slice();
         starts.partition_point(|start| *start <= number)
@@ -198,11 +209,15 @@ impl Pips {
         self.begun(number) - 1
     }
 
-    /// The tile of a directed PIP, its PIP among those of the tile's type, and whether it goes forward.
+    /// The tile of a directed PIP, its PIP among those of the tile's type, and whether it goes
+    /// forward.
     pub(crate) fn locate(&self, pip: PipId) -> (TileId, TilePip, bool)
         requires tables { ArePips self.now }
-        requires there { IsSome (find (λ e. nat_eq e.number pip) (ways_from self.now.types 0 0 self.now.kinds)) }
-        ensures { option_map (λ e. (e.tile, e.pip, e.forward)) (find (λ e. nat_eq e.number pip) (ways_from self.now.types 0 0 self.now.kinds)) ≡ Some result }
+        requires there { IsSome (find (λ e. nat_eq e.number pip)
+            (ways_from self.now.types 0 0 self.now.kinds)) }
+        ensures { option_map (λ e. (e.tile, e.pip, e.forward))
+            (find (λ e. nat_eq e.number pip) (ways_from self.now.types 0 0 self.now.kinds))
+            ≡ Some result }
     {
         let number = pip.get() / 2;
         let tile = self.tile_of(number);
@@ -216,9 +231,10 @@ impl Pips {
     }
 
     // The place of the first PIP of a tile type between these wires, this way.
-    fn place_of(&self, key: Key, forward: bool) -> Option<u32>
+    fn first_number(&self, key: Key, forward: bool) -> Option<u32>
         requires tables { ArePips self.now }
-        ensures { result ≡ position (goes key.part key.name forward) (pips_of_type self.now.types key.owner) }
+        ensures { result ≡ position (goes key.part key.name forward)
+            (pips_of_type self.now.types key.owner) }
     {
         if forward {
             self.forward.get(key)
@@ -227,7 +243,8 @@ impl Pips {
         }
     }
 
-    /// The first directed PIP of a tile between these wires of the tile, this way; none exactly where there is none.
+    /// The first directed PIP of a tile between these wires of the tile, this way; none exactly
+    /// where there is none.
     pub(crate) fn between(
         &self,
         tile: TileId,
@@ -237,10 +254,12 @@ impl Pips {
     ) -> Option<PipId>
         requires tables { ArePips self.now }
         requires tile { tile < length self.now.kinds }
-        ensures { result ≡ option_map (λ e. e.number) (find (joins_at tile wire0 wire1 forward) (ways_from self.now.types 0 0 self.now.kinds)) }
+        ensures { result ≡ option_map (λ e. e.number)
+            (find (joins_at tile wire0 wire1 forward)
+            (ways_from self.now.types 0 0 self.now.kinds)) }
     {
         let at = tile.get() as usize;
-        let place = self.place_of(Key::new(*self.kinds.at(at), wire0, wire1), forward)?;
+        let place = self.first_number(Key::new(*self.kinds.at(at), wire0, wire1), forward)?;
         Some(way_of(*self.starts.at(at) + place, forward))
     }
 }

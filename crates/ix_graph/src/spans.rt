@@ -61,7 +61,8 @@ pub(crate) struct TileBox {
 impl TileBox {
     // With one tile more. Without a box before it, that tile's own.
     fn with(before: Option<TileBox>, row: u32, column: u32) -> TileBox
-        ensures { (places : List (ℕ × ℕ)) → before ≡ box_of places → Some result ≡ box_of (places ++ (row, column) ∷ []) }
+        ensures { (places : List (ℕ × ℕ)) → before ≡ box_of places
+            → Some result ≡ box_of (places ++ (row, column) ∷ []) }
     {
         match before {
             Some(b) => TileBox {
@@ -104,7 +105,8 @@ fn boxes_of(
 ) -> Result<Vec<Option<TileBox>>, Memory>
     requires wires { wires.now ≡ nodes_from rec.now 0 rec.now.tile_list }
     requires below { AllByRecursion (AreBelow count) wires.now }
-    ensures { IfOk result (λ boxes. boxes.items ≡ map (λ n. box_of (places_of_node rec.now n)) (range_with_len 0 count)) }
+    ensures { IfOk result (λ boxes. boxes.items
+        ≡ map (λ n. box_of (places_of_node rec.now n)) (range_with_len 0 count)) }
 {
     let mut boxes = Vec::new(alloc);
     boxes.resize(count, None)?;
@@ -131,11 +133,13 @@ fn greatest_of(boxes: &[Option<TileBox>]) -> u64
     greatest
 }
 
-/// The greatest span of a node, 0 where there is none: half the perimeter of the box of its wires' tiles.
+/// The greatest span of a node, 0 where there is none: half the perimeter of the box of its wires'
+/// tiles.
 ///
 /// `wires` are the nodes of the wires of each tile, `count` is how many nodes there are.
 ///
-/// `Memory` is the only error, and is told too where a span has more than 32 bits; a valid device has none.
+/// `Memory` is the only error, and is told too where a span has more than 32 bits; a valid device
+/// has none.
 pub(crate) fn greatest_span(
     alloc: Global,
     rec: &DeviceRec,

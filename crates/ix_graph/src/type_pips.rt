@@ -13,7 +13,8 @@ use std::alloc::Global;
 pub(crate) struct TilePip {
     /// Its place in the tile type's list of PIPs.
     pub place: u32,
-    /// The wire at which a signal enters where it goes forward, as a place in the tile type's list of wires.
+    /// The wire at which a signal enters where it goes forward, as a place in the tile type's list
+    /// of wires.
     pub wire0: u32,
     /// The wire at which it then leaves.
     pub wire1: u32,

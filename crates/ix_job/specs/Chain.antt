@@ -12,7 +12,8 @@ Step A = Result A Report → Type 0
 -- a step, and then the one that its value leads to
 abbrev pub and_then : {A B : Type 0} → Step A → (A → Step B) → Step B
 and_then {A} step next (Ok b) = (a : A) × step (Ok a) × next a (Ok b)
-and_then {A} step next (Err report) = step (Err report) ⊎ ((a : A) × step (Ok a) × next a (Err report))
+and_then {A} step next (Err report) = step (Err report)
+    ⊎ ((a : A) × step (Ok a) × next a (Err report))
 
 infixl 10 ◌>>=◌
 abbrev pub ◌>>=◌ : {A B : Type 0} → Step A → (A → Step B) → Step B

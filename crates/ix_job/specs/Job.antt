@@ -1,5 +1,7 @@
 -- What a job is, and how its run may end: for any shelf, any sink and any work.
-use Rattle.std.specs.Prelude.{◌≡◌, ◌⊎◌, ℕ, ◌^◌, List, [], ◌∷◌, length, map, take, nat_lt, Option, Some, None, option_map, slice_get, IsSome, Result, Ok, Err, if◌then◌else◌}
+use Rattle.std.specs.Prelude.{◌≡◌, ◌⊎◌, ℕ, ◌^◌, List, [], ◌∷◌, length, map, take, nat_lt, Option}
+use Rattle.std.specs.Prelude.{Some, None, option_map, slice_get, IsSome, Result, Ok, Err}
+use Rattle.std.specs.Prelude.{if◌then◌else◌}
 use Rattle.std.specs.List.{AllByRecursion}
 use Rattle.ix_shelf.specs.Shelf.{Files, Rose, IsAbsent, LeavesPrefix, with_file}
 use Rattle.ix_report.specs.declared.report.Report as reports
@@ -37,19 +39,23 @@ AreContents files names contents =
 
 -- the files with these set, in order: each name with its bytes
 abbrev pub with_files : List Name → List (List ℕ) → Files → Files
-with_files (name ∷ names) (bytes ∷ outputs) files = with_files names outputs (with_file name bytes files)
+with_files (name ∷ names) (bytes ∷ outputs) files
+    = with_files names outputs (with_file name bytes files)
 with_files [] outputs files = files
 with_files (name ∷ names) [] files = files
 
 -- an outcome for the contents of the inputs, which are those of the files where these are told
-pub record HasOutcome (is_outcome : List Content → Outcome → Type 0) (job : Job) (told : Option Files) : Type 0 where
+pub record HasOutcome (is_outcome : List Content → Outcome
+    → Type 0) (job : Job) (told : Option Files) : Type 0 where
   pub contents : List Content
   pub outcome : Outcome
   pub read : (files : Files) → told ≡ Some files → AreContents files job.inputs contents
   pub is : is_outcome contents outcome
 
--- The job was done or refused: all its outputs were written, and no write was tried where there are none.
-pub record IsAnswered (is_outcome : List Content → Outcome → Type 0) (job : Job) (before after : Outside) (report : reports.Report) : Type 0 where
+-- The job was done or refused: all its outputs were written, and no write was tried where there are
+-- none.
+pub record IsAnswered (is_outcome : List Content → Outcome
+    → Type 0) (job : Job) (before after : Outside) (report : reports.Report) : Type 0 where
   pub has : HasOutcome is_outcome job before.files
   pub written : after.files ≡ option_map (with_files job.outputs has.outcome.outputs) before.files
   pub untried : has.outcome.outputs ≡ [] → after.write_faults ≡ before.write_faults
@@ -67,9 +73,10 @@ pub record IsUnread (job : Job) (before after : Outside) (report : reports.Repor
   pub untried : after.write_faults ≡ before.write_faults
   pub report_is : report ≡ a_report.ReadFault name
 
--- An output wasn't written, for a cause outside: those before it are whole, it holds a prefix of its bytes or is as
--- it was, and those after it weren't touched.
-pub record IsUnwritten (is_outcome : List Content → Outcome → Type 0) (job : Job) (before after : Outside) (report : reports.Report) : Type 0 where
+-- An output wasn't written, for a cause outside: those before it are whole, it holds a prefix of
+-- its bytes or is as it was, and those after it weren't touched.
+pub record IsUnwritten (is_outcome : List Content → Outcome
+    → Type 0) (job : Job) (before after : Outside) (report : reports.Report) : Type 0 where
   pub has : HasOutcome is_outcome job before.files
   pub place : ℕ
   pub name : Name
@@ -78,7 +85,8 @@ pub record IsUnwritten (is_outcome : List Content → Outcome → Type 0) (job :
   pub bytes_are : slice_get has.outcome.outputs place ≡ Some bytes
   pub cause : Rose (before.write_faults name) (after.write_faults name)
   pub left : LeavesPrefix name bytes
-      (option_map (with_files (take place job.outputs) (take place has.outcome.outputs)) before.files) after.files
+      (option_map (with_files (take place job.outputs) (take place has.outcome.outputs))
+      before.files) after.files
   pub report_is : report ≡ a_report.WriteFault name
 
 -- Memory was wanting before the first output was begun. No file was touched.
@@ -88,21 +96,26 @@ pub record IsStarved (before after : Outside) (report : reports.Report) : Type 0
   pub report_is : report ≡ a_report.OutOfMemory
 
 -- how a run may end that tells this report
-abbrev pub IsEnding : (List Content → Outcome → Type 0) → Job → (before after : Outside) → reports.Report → Type 0
+abbrev pub IsEnding : (List Content → Outcome → Type 0) → Job → (before after : Outside)
+    → reports.Report → Type 0
 IsEnding is_outcome job before after report =
     IsAnswered is_outcome job before after report ⊎ IsUnread job before after report
     ⊎ IsUnwritten is_outcome job before after report ⊎ IsStarved before after report
 
 -- a run of a job
-pub record IsJobRun (is_outcome : List Content → Outcome → Type 0) (job : Job) (before after : Outside) (report : reports.Report) (telling : Telling) : Type 0 where
+pub record IsJobRun (is_outcome : List Content → Outcome
+    → Type 0) (job : Job) (before after : Outside) (report : reports.Report) (telling : Telling)
+    : Type 0 where
   pub ending : IsEnding is_outcome job before after report
   pub told : IsTold report before.told after.told before.put_faults after.put_faults telling
   pub counts : KeepsCounts before after
 
 -- What a run of a job answers: the report that stands, or that a done job's line wasn't wholly put.
-abbrev pub RunsJob : {E : Type 0} → (List Content → Outcome → Type 0) → Job → (before after : Outside) → Result reports.Report E → Type 0
+abbrev pub RunsJob : {E : Type 0} → (List Content → Outcome → Type 0) → Job
+    → (before after : Outside) → Result reports.Report E → Type 0
 RunsJob is_outcome job before after (Ok report) = IsJobRun is_outcome job before after report stands
-RunsJob is_outcome job before after (Err failed) = (report : reports.Report) × IsJobRun is_outcome job before after report not_put
+RunsJob is_outcome job before after (Err failed) = (report : reports.Report)
+    × IsJobRun is_outcome job before after report not_put
 
 -- nothing outside has failed
 pub record NothingFailed (before after : Outside) : Type 0 where
@@ -111,14 +124,19 @@ pub record NothingFailed (before after : Outside) : Type 0 where
   pub put : ¬ Rose before.put_faults after.put_faults
 
 -- It is told what the contents come to, or that memory is wanting, which may be at any time.
-abbrev pub IsToldOf : {E : Type 0} → (List Content → Outcome → Type 0) → List Content → Result reports.Report E → Type 0
+abbrev pub IsToldOf : {E : Type 0} → (List Content → Outcome → Type 0) → List Content
+    → Result reports.Report E → Type 0
 IsToldOf is_outcome contents (Ok report) =
-    (report ≡ a_report.OutOfMemory) ⊎ ((outcome : Outcome) × is_outcome contents outcome × (report ≡ outcome.report))
+    (report ≡ a_report.OutOfMemory) ⊎ ((outcome : Outcome) × is_outcome contents outcome
+    × (report ≡ outcome.report))
 IsToldOf is_outcome contents (Err failed) = ⊥
 
--- Where the shelf tells its files and has all inputs, and nothing fails, it is told what they come to.
-abbrev pub CompletesJob : {E : Type 0} → (List Content → Outcome → Type 0) → Job → (before after : Outside)
+-- Where the shelf tells its files and has all inputs, and nothing fails, it is told what they come
+-- to.
+abbrev pub CompletesJob : {E : Type 0} → (List Content → Outcome → Type 0) → Job
+    → (before after : Outside)
     → Result reports.Report E → Type 0
 CompletesJob is_outcome job before after result =
-    (files : Files) (contents : List Content) → before.files ≡ Some files → AreContents files job.inputs contents
+    (files : Files) (contents : List Content) → before.files ≡ Some files
+    → AreContents files job.inputs contents
     → NothingFailed before after → IsToldOf is_outcome contents result

@@ -1,5 +1,6 @@
 -- A shelf and a sink at one moment, and how a line is printed.
-use Rattle.std.specs.Prelude.{◌≡◌, ◌≤◌, ◌⊎◌, ℕ, Bool, true, false, List, Option, Result, Ok, Err, IsTrue}
+use Rattle.std.specs.Prelude.{◌≡◌, ◌≤◌, ◌⊎◌, ℕ, Bool, true, false, List, Option, Result, Ok, Err}
+use Rattle.std.specs.Prelude.{IsTrue}
 use Rattle.ix_shelf.specs.Shelf.{Files, Counts, NoneFalls, Rose}
 use Rattle.ix_shelf.specs.Sink.{with_bytes, PutsPrefix}
 use Rattle.ix_report.specs.Lines.{line_of}
@@ -35,7 +36,8 @@ abbrev pub PutsLine : List ℕ → (old new : Option (List ℕ)) → (before now
 PutsLine line old new before now =
     (new ≡ with_bytes line old) ⊎ (Rose before now × PutsPrefix line old new)
 
--- A report of a job that is done, or of a check that says no: it is an answer only where its whole line was put.
+-- A report of a job that is done, or of a check that says no: it is an answer only where its whole
+-- line was put.
 abbrev pub is_done : reports.Report → Bool
 is_done (a_report.Packed cells clusters) = true
 is_done (a_report.Placed clusters length) = true
@@ -53,7 +55,8 @@ pub data Telling : Type 0 where
   -- a done job's line wasn't wholly put
   not_put : Telling
 
-abbrev pub IsTold : reports.Report → (old new : Option (List ℕ)) → (before now : ℕ) → Telling → Type 0
+abbrev pub IsTold : reports.Report → (old new : Option (List ℕ)) → (before now : ℕ) → Telling
+    → Type 0
 IsTold report old new before now not_put =
     IsTrue (is_done report) × Rose before now × PutsPrefix (line_of report) old new
 IsTold report old new before now stands =
@@ -61,6 +64,8 @@ IsTold report old new before now stands =
     × (IsTrue (is_done report) → new ≡ with_bytes (line_of report) old)
 
 -- the same of a call that answers the report, or that its line wasn't wholly put
-abbrev pub Tells : {E : Type 0} → reports.Report → (old new : Option (List ℕ)) → (before now : ℕ) → Result reports.Report E → Type 0
-Tells report old new before now (Ok told) = (told ≡ report) × IsTold report old new before now stands
+abbrev pub Tells : {E : Type 0} → reports.Report → (old new : Option (List ℕ)) → (before now : ℕ)
+    → Result reports.Report E → Type 0
+Tells report old new before now (Ok told) = (told ≡ report)
+    × IsTold report old new before now stands
 Tells report old new before now (Err failed) = IsTold report old new before now not_put

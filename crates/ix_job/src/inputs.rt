@@ -30,7 +30,9 @@ fn read_input<S: Shelf>(alloc: Global, shelf: &mut S, name: &str) -> Result<Cont
     ensures write_faults { S.write_faults shelf.new ≡ S.write_faults shelf.old }
     ensures read_faults { NoneFalls (S.read_faults shelf.old) (S.read_faults shelf.new) }
     ensures content { IfOk result (IsContent (S.files shelf.old) name.now) }
-    ensures cause { IsErrOf result Missing.Fault → Rose (S.read_faults shelf.old name.now) (S.read_faults shelf.new name.now) ⊎ IsAbsent (S.files shelf.old) name.now }
+    ensures cause { IsErrOf result Missing.Fault
+        → Rose (S.read_faults shelf.old name.now) (S.read_faults shelf.new name.now)
+        ⊎ IsAbsent (S.files shelf.old) name.now }
 {
     match read_file(alloc, shelf, name) {
         Ok(bytes) => Ok(Content::Bytes(Bytes::new(bytes))),
@@ -50,7 +52,8 @@ pub(crate) fn read_inputs<S: Shelf>(
     ensures files { S.files shelf.new ≡ S.files shelf.old }
     ensures write_faults { S.write_faults shelf.new ≡ S.write_faults shelf.old }
     ensures read_faults { NoneFalls (S.read_faults shelf.old) (S.read_faults shelf.new) }
-    ensures read { AreRead (S.files shelf.old) (S.read_faults shelf.old) (S.read_faults shelf.new) (map (λ name. name.now) names.now) result }
+    ensures read { AreRead (S.files shelf.old) (S.read_faults shelf.old) (S.read_faults shelf.new)
+        (map (λ name. name.now) names.now) result }
     ensures count { IfOk result (λ contents. length contents ≡ length names.now) }
 {
     let mut contents = Items::new(alloc);

@@ -42,7 +42,8 @@ fn unwritten_line(alloc: Global, name: &str) -> Result<Line, Memory>
 
 /// The lines of faults at writing the files of these names, in order.
 pub(crate) fn unwritten_lines(alloc: Global, names: &[&str]) -> Result<Vec<Line>, Memory>
-    ensures { IfOk result (λ lines. map (λ l. l.report) lines.items ≡ map (λ name. Report.WriteFault name) (map (λ name. name.now) names.now)) }
+    ensures { IfOk result (λ lines. map (λ l. l.report) lines.items
+        ≡ map (λ name. Report.WriteFault name) (map (λ name. name.now) names.now)) }
 {
     let mut lines = Vec::new(alloc);
     for i in 0..names.len() {

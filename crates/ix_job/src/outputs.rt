@@ -24,8 +24,12 @@ pub(crate) fn write_outputs<S: Shelf>(
     ensures read_faults { S.read_faults shelf.new ≡ S.read_faults shelf.old }
     ensures write_faults { NoneFalls (S.write_faults shelf.old) (S.write_faults shelf.new) }
     ensures untried { outputs.now ≡ [] → S.write_faults shelf.new ≡ S.write_faults shelf.old }
-    ensures all { OnOk result (S.files shelf.new ≡ option_map (with_files (map (λ name. name.now) names.now) outputs.now) (S.files shelf.old)) }
-    ensures unwritten { IfErr result (λ e. IsUnwrittenAt (S.files shelf.old) (S.files shelf.new) (S.write_faults shelf.old) (S.write_faults shelf.new) (map (λ name. name.now) names.now) outputs.now e.place) }
+    ensures all { OnOk result (S.files shelf.new
+        ≡ option_map (with_files (map (λ name. name.now) names.now) outputs.now)
+        (S.files shelf.old)) }
+    ensures unwritten { IfErr result (λ e. IsUnwrittenAt (S.files shelf.old) (S.files shelf.new)
+        (S.write_faults shelf.old) (S.write_faults shelf.new) (map (λ name. name.now) names.now)
+        outputs.now e.place) }
 {
     for i in 0..names.len().min(outputs.len()) {
         match write_file(shelf, names[i], outputs.at(i).as_slice()) {

@@ -35,7 +35,8 @@ fn is_done(report: &Report) -> bool
 
 // Prints the line of a report. It takes no memory.
 fn tell<O: Sink>(out: &mut O, line: Line) -> Result<Report, Failed>
-    ensures told { Tells line.report (O.told out.old) (O.told out.new) (O.faults out.old) (O.faults out.new) result }
+    ensures told { Tells line.report (O.told out.old) (O.told out.new) (O.faults out.old)
+        (O.faults out.new) result }
     ensures faults { O.faults out.old ≤ O.faults out.new }
 {
     match say(out, line.text.as_slice()) {
@@ -50,7 +51,8 @@ fn tell<O: Sink>(out: &mut O, line: Line) -> Result<Report, Failed>
     }
 }
 
-/// What has to be written and told once the inputs were read and worked on. All memory that it takes has been found.
+/// What has to be written and told once the inputs were read and worked on. All memory that it
+/// takes has been found.
 #[derive(Drop)]
 struct Ready {
     outputs: Items<Bytes>,
@@ -62,7 +64,8 @@ struct Ready {
 fn with_lines(alloc: Global, names: &[&str], outcome: Outcome) -> Result<Ready, Memory>
     ensures outputs { IfOk result (λ r. r.outputs ≡ outcome.outputs) }
     ensures report { IfOk result (λ r. r.done.report ≡ outcome.report) }
-    ensures faults { IfOk result (λ r. map (λ l. l.report) r.faults.items ≡ map (λ name. Report.WriteFault name) (map (λ name. name.now) names.now)) }
+    ensures faults { IfOk result (λ r. map (λ l. l.report) r.faults.items
+        ≡ map (λ name. Report.WriteFault name) (map (λ name. name.now) names.now)) }
 {
     let Outcome { report, outputs } = outcome;
     Ok(Ready {
@@ -80,7 +83,8 @@ fn prepare<W: Work>(
     outputs: &[&str],
 ) -> Result<Ready, Memory>
     requires { length contents.now ≡ W.inputs_count work.now }
-    ensures { IfOk result (IsMadeOf (W.is_outcome work.now) (map content_seen contents.now) (map (λ name. name.now) outputs.now)) }
+    ensures { IfOk result (IsMadeOf (W.is_outcome work.now) (map content_seen contents.now)
+        (map (λ name. name.now) outputs.now)) }
 {
     let outcome = work.outcome(alloc, contents)?;
     with_lines(alloc, outputs, outcome)
@@ -88,7 +92,8 @@ fn prepare<W: Work>(
 
 // Tells that memory is wanting.
 fn starve<O: Sink>(out: &mut O) -> Result<Report, Failed>
-    ensures told { Tells Report.OutOfMemory (O.told out.old) (O.told out.new) (O.faults out.old) (O.faults out.new) result }
+    ensures told { Tells Report.OutOfMemory (O.told out.old) (O.told out.new) (O.faults out.old)
+        (O.faults out.new) result }
     ensures faults { O.faults out.old ≤ O.faults out.new }
 {
     let _ = say(out, OUT_OF_MEMORY_LINE);
@@ -97,7 +102,8 @@ fn starve<O: Sink>(out: &mut O) -> Result<Report, Failed>
 
 // Tells that the input of this name wasn't read, or that memory is wanting for that.
 fn tell_unread<O: Sink>(alloc: Global, name: &str, out: &mut O) -> Result<Report, Failed>
-    ensures told { TellsEither (Report.ReadFault name.now) Report.OutOfMemory (O.told out.old) (O.told out.new) (O.faults out.old) (O.faults out.new) result }
+    ensures told { TellsEither (Report.ReadFault name.now) Report.OutOfMemory (O.told out.old)
+        (O.told out.new) (O.faults out.old) (O.faults out.new) result }
     ensures faults { O.faults out.old ≤ O.faults out.new }
 {
     match unread_line(alloc, name) {
@@ -121,7 +127,8 @@ fn finish<S: Shelf, O: Sink>(
     shelf: &mut S,
     out: &mut O,
 ) -> Result<Report, Failed>
-    requires { map (λ l. l.report) ready.faults.items ≡ map (λ name. Report.WriteFault name) (map (λ name. name.now) outputs.now) }
+    requires { map (λ l. l.report) ready.faults.items
+        ≡ map (λ name. Report.WriteFault name) (map (λ name. name.now) outputs.now) }
     ensures finished { Finishes ready (map (λ name. name.now) outputs.now)
         (outside S.files S.read_faults S.write_faults O.told O.faults shelf.old out.old)
         (outside S.files S.read_faults S.write_faults O.told O.faults shelf.new out.new) result }
@@ -140,8 +147,9 @@ fn finish<S: Shelf, O: Sink>(
     }
 }
 
-/// Runs a job: reads the inputs to their end, in order; asks the work what they come to; writes the outputs, one after another;
-/// and prints the line of the report. How it may end is said by `IsEnding`.
+/// Runs a job: reads the inputs to their end, in order; asks the work what they come to; writes the
+/// outputs, one after another; and prints the line of the report. How it may end is said by
+/// `IsEnding`.
 ///
 /// All memory is taken before the first output is begun, and not after.
 ///
@@ -157,12 +165,14 @@ pub fn run_job<W: Work, S: Shelf, O: Sink>(
     out: &mut O,
 ) -> Result<Report, Failed>
     requires { length inputs.now ≡ W.inputs_count work.now }
-    ensures run { RunsJob (W.is_outcome work.now) (job_of (map (λ name. name.now) inputs.now) (map (λ name. name.now) outputs.now))
+    ensures run { RunsJob (W.is_outcome work.now)
+        (job_of (map (λ name. name.now) inputs.now) (map (λ name. name.now) outputs.now))
         (outside S.files S.read_faults S.write_faults O.told O.faults shelf.old out.old)
         (outside S.files S.read_faults S.write_faults O.told O.faults shelf.new out.new) result }
 
     // It follows that where nothing fails it is told what the inputs come to.
-    ensures complete { CompletesJob (W.is_outcome work.now) (job_of (map (λ name. name.now) inputs.now) (map (λ name. name.now) outputs.now))
+    ensures complete { CompletesJob (W.is_outcome work.now)
+        (job_of (map (λ name. name.now) inputs.now) (map (λ name. name.now) outputs.now))
         (outside S.files S.read_faults S.write_faults O.told O.faults shelf.old out.old)
         (outside S.files S.read_faults S.write_faults O.told O.faults shelf.new out.new) result }
 {

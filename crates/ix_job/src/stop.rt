@@ -34,7 +34,8 @@ impl From<AllocError> for Stop {
     }
 }
 
-/// The outcome of a job that was refused: nothing is written. `Memory` where that was why it stopped.
+/// The outcome of a job that was refused: nothing is written. `Memory` where that was why it
+/// stopped.
 pub fn refused(alloc: Global, stop: Stop) -> Result<Outcome, Memory>
     ensures refused { IfOk result (λ outcome. stop ≡ Stop.Refused outcome.report) }
     ensures nothing { IfOk result (λ outcome. outcome.outputs ≡ []) }

@@ -32,11 +32,13 @@ pub trait Work {
     /// How many inputs the job has.
     ghost inputs_count: { Self → ℕ };
 
-    /// Whether the job may come to this with these contents, which stand in the order of the inputs' names.
+    /// Whether the job may come to this with these contents, which stand in the order of the
+    /// inputs' names.
     ghost is_outcome: { Self → List ContentSeen → OutcomeSeen → Type 0 };
 
     /// What the job comes to. `Memory` is its only error.
     fn outcome(&self, alloc: Global, inputs: &Items<Content>) -> Result<Outcome, Memory>
         requires { length inputs.now ≡ inputs_count self.now }
-        ensures { IfOk result (λ outcome. is_outcome self.now (map content_seen inputs.now) (outcome_seen outcome)) };
+        ensures { IfOk result (λ outcome. is_outcome self.now (map content_seen inputs.now)
+            (outcome_seen outcome)) };
 }

@@ -1,1 +1,2 @@
+-- For private contracts and proofs.
 pub mod Joins

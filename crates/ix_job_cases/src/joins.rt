@@ -60,7 +60,8 @@ fn outcome_of(alloc: Global, a: &[u8], b: &[u8]) -> Result<Outcome, Memory>
 
 /// What two contents come to.
 fn joined_contents(alloc: Global, a: &Content, b: &Content) -> Result<Outcome, Memory>
-    ensures { IfOk result (λ outcome. outcome_seen outcome ≡ joined (content_seen a.now) (content_seen b.now)) }
+    ensures { IfOk result (λ outcome. outcome_seen outcome
+        ≡ joined (content_seen a.now) (content_seen b.now)) }
 {
     match a {
         Content::Bytes(first) => match b {
@@ -88,7 +89,8 @@ impl Work for Joins {
 
     fn outcome(&self, alloc: Global, inputs: &Items<Content>) -> Result<Outcome, Memory>
         requires { length inputs.now ≡ 2 }
-        ensures { IfOk result (λ outcome. IsJoined (map content_seen inputs.now) (outcome_seen outcome)) }
+        ensures { IfOk result (λ outcome. IsJoined (map content_seen inputs.now)
+            (outcome_seen outcome)) }
     {
         joined_contents(alloc, inputs.at(0), inputs.at(1))
     }

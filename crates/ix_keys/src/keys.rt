@@ -1,6 +1,7 @@
 //! The table of keys.
 
-ghost use Rattle.std.specs.Prelude.{◌≡◌, ◌<◌, ◌^◌, [], Some, not, length, slice_get, position, IfOk, IfSome, OnErr, OnOk};
+ghost use Rattle.std.specs.Prelude.{◌≡◌, ◌<◌, ◌^◌, [], Some, not, length, slice_get, position};
+ghost use Rattle.std.specs.Prelude.{IfOk, IfSome, OnErr, OnOk};
 ghost use Rattle.ix_keys.specs.Keys.{key_eq, has_key, with_key, AllDiffer};
 
 use crate::key::Key;
@@ -37,8 +38,8 @@ impl Keys {
         }
     }
 
-    /// Adds the key where it is new, and says whether it is. The key is hashed once. The table grows, and after `Memory` it
-    /// is as before. A table has at most 2^32 - 1 keys.
+    /// Adds the key where it is new, and says whether it is. The key is hashed once. The table
+    /// grows, and after `Memory` it is as before. A table has at most 2^32 - 1 keys.
     pub fn add(&mut self, key: Key) -> Result<bool, Memory>
         ensures new { IfOk result (λ new. new ≡ not (has_key self.old key)) }
         ensures keys { OnOk result (self.new ≡ with_key self.old key) }

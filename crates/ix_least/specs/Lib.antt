@@ -1,6 +1,6 @@
--- What public contracts cite.
+-- What public contracts say.
 pub mod Walks
--- What private contracts and proofs cite.
+-- For private contracts and proofs.
 pub mod Labels
 pub mod Queue
 pub mod Settling

@@ -1,7 +1,8 @@
 //! What a search knows of each point.
 
 ghost use Rattle.std.specs.Prelude.{◌≡◌, ℕ, ◌<◌, ◌^◌, List, [], Some, None, false, true, All};
-ghost use Rattle.std.specs.Prelude.{length, map, replicate, slice_get, slice_set, IfOk, IfSome, IfNone};
+ghost use Rattle.std.specs.Prelude.{length, map, replicate, slice_get, slice_set, IfOk, IfSome};
+ghost use Rattle.std.specs.Prelude.{IfNone};
 
 use ix_num::Memory;
 use std::alloc::Global;

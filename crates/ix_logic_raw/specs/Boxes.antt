@@ -10,4 +10,5 @@ use Rattle.ix_message.specs.Reading.{Reads, value_at, each_from}
 -- the entries of the struct that is behind the pointer in this slot
 abbrev pub entries_behind : Object → ℕ → ℕ → Reads (List (Value ℕ entry))
 entries_behind o slot budget =
-    struct_at o slot budget >>= λ box. elements_at box.0 0 box.1 >>= λ l. each_from (value_at entry) l.0.count l.0 0 l.1
+    struct_at o slot budget >>= λ box. elements_at box.0 0 box.1
+    >>= λ l. each_from (value_at entry) l.0.count l.0 0 l.1

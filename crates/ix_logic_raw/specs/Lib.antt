@@ -1,2 +1,4 @@
-pub mod Boxes
+-- What public contracts say.
 pub mod Raw
+-- For private contracts and proofs.
+pub mod Boxes

@@ -1,4 +1,4 @@
--- What the contracts of public functions cite.
+-- What public contracts say.
 pub mod Tables
 pub mod Places
 pub mod Shapes
@@ -7,7 +7,7 @@ pub mod Items
 pub mod Ties
 pub mod Plans
 pub mod Init
--- What only private contracts cite.
+-- For private contracts and proofs.
 pub mod Readings
 pub mod Forcing
 pub mod Fillings

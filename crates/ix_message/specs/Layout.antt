@@ -1,8 +1,12 @@
--- How a message is laid out: one segment, in which after a struct the objects of its pointers follow in slot order,
--- each with its whole content before the next, and after a list's elements the objects of each element in turn.
-use Rattle.std.specs.Prelude.{ℕ, ◌+◌, ◌-◌, ◌*◌, ◌/◌, ◌%◌, ◌^◌, List, [], ◌∷◌, ◌++◌, length, map, replicate, Bool, true, ◌&&◌, nat_lt, Option, Some, None}
+-- How a message is laid out: one segment, in which after a struct the objects of its pointers
+-- follow in slot order, each with its whole content before the next, and after a list's elements
+-- the objects of each element in turn.
+use Rattle.std.specs.Prelude.{ℕ, ◌+◌, ◌-◌, ◌*◌, ◌/◌, ◌%◌, ◌^◌, List, [], ◌∷◌, ◌++◌, length, map}
+use Rattle.std.specs.Prelude.{replicate, Bool, true, ◌&&◌, nat_lt, Option, Some, None}
 use Rattle.byteorder.specs.Endian.{little_bytes}
-use Rattle.ix_message.specs.Shape.{Text, Struct, Pointers, Branches, Value, Parts, struct_of, no_more, text, texts, numbers, struct, struct_or_none, boxed, structs, branches, string_table, unread, ends, branch}
+use Rattle.ix_message.specs.Shape.{Text, Struct, Pointers, Branches, Value, Parts, struct_of}
+use Rattle.ix_message.specs.Shape.{no_more, text, texts, numbers, struct, struct_or_none, boxed}
+use Rattle.ix_message.specs.Shape.{structs, branches, string_table, unread, ends, branch}
 
 -- bytes, and zero bytes to a whole word
 abbrev pub padded : List ℕ → List ℕ
@@ -17,9 +21,9 @@ number_bytes (n ∷ ns) = little_bytes 4 n ++ number_bytes ns
 abbrev pub too_many_words : ℕ
 too_many_words = 2 ^ 27
 
--- An object as its pointer's word, by how many words behind the pointer's end the object begins, and as its bytes with
--- its whole content; and whether each text and list of structs in it fits its count. A pointer to nothing is a zero
--- word.
+-- An object as its pointer's word, by how many words behind the pointer's end the object begins,
+-- and as its bytes with its whole content; and whether each text and list of structs in it fits its
+-- count. A pointer to nothing is a zero word.
 pub record Laid : Type 0 where
   pub pointer : ℕ → ℕ
   pub object : List ℕ
@@ -35,11 +39,12 @@ struct_pointer data_words pointer_words gap = 4 * gap + data_words * 2 ^ 32 + po
 abbrev pub list_pointer : (size count gap : ℕ) → ℕ
 list_pointer size count gap = 1 + 4 * gap + size * 2 ^ 32 + count * 2 ^ 35
 
--- Pointers one after another, whose objects follow in the same order, the first of them this many words behind the
--- last pointer.
+-- Pointers one after another, whose objects follow in the same order, the first of them this many
+-- words behind the last pointer.
 unfoldable pub pointer_section : ℕ → List Laid → List ℕ
 pointer_section ahead [] = []
-pointer_section ahead (x ∷ xs) = little_bytes 8 (x.pointer (length xs + ahead)) ++ pointer_section (ahead + length x.object / 8) xs
+pointer_section ahead (x ∷ xs) = little_bytes 8 (x.pointer (length xs + ahead))
+    ++ pointer_section (ahead + length x.object / 8) xs
 
 abbrev pub objects : List Laid → List ℕ
 objects [] = []
@@ -96,12 +101,13 @@ struct_laid e = record {
   fits = all_fit e.behind;
 }
 
--- Elements of this many words one after another, whose objects follow in the same order, the first this many words
--- behind the last element.
+-- Elements of this many words one after another, whose objects follow in the same order, the first
+-- this many words behind the last element.
 unfoldable pub element_sections : ℕ → ℕ → List Section → List ℕ
 element_sections words ahead [] = []
 element_sections words ahead (e ∷ es) =
-    section_bytes (words * length es + ahead) e ++ element_sections words (ahead + length (objects e.behind) / 8) es
+    section_bytes (words * length es + ahead) e
+    ++ element_sections words (ahead + length (objects e.behind) / 8) es
 
 -- the objects of elements, those of each in turn
 abbrev pub element_objects : List Section → List ℕ
@@ -117,14 +123,16 @@ unfoldable pub structs_laid : List Section → Laid
 structs_laid [] = nothing_laid
 structs_laid (e ∷ es) = let n = length (e ∷ es) in record {
   pointer = list_pointer 7 (n * section_words e);
-  object = little_bytes 8 (struct_pointer (length e.data_bytes / 8) (length e.behind) n) ++ element_sections (section_words e) 0 (e ∷ es) ++ element_objects (e ∷ es);
+  object = little_bytes 8 (struct_pointer (length e.data_bytes / 8) (length e.behind) n)
+      ++ element_sections (section_words e) 0 (e ∷ es) ++ element_objects (e ∷ es);
   fits = nat_lt n (2 ^ 30) && elements_fit (e ∷ es);
 }
 
 unfoldable pub branch_sections : Branches (List ℕ) → List Section
 branch_sections ends = []
 branch_sections (branch row below beside) =
-    record { data_bytes = data_section row; behind = structs_laid (branch_sections below) ∷ [] } ∷ branch_sections beside
+    record { data_bytes = data_section row; behind = structs_laid (branch_sections below) ∷ [] }
+    ∷ branch_sections beside
 
 abbrev pub boxed_laid : List Section → Laid
 boxed_laid [] = nothing_laid
@@ -136,17 +144,23 @@ option_laid section (Some x) = struct_laid (section x)
 
 unfoldable mutual
   pub section_of : List Text → (s : Struct) → Value ℕ s → Section
-  section_of table (struct_of called fields ps) v = record { data_bytes = data_section v.0; behind = all_laid table ps v.1 }
+  section_of table (struct_of called fields ps) v
+      = record { data_bytes = data_section v.0; behind = all_laid table ps v.1 }
 
   pub all_laid : List Text → (ps : Pointers) → Parts ℕ ps → List Laid
   all_laid table no_more v = []
   all_laid table (text called ps) v = text_laid v.0 ∷ all_laid table ps v.1
   all_laid table (texts called ps) v = texts_laid v.0 ∷ all_laid table ps v.1
   all_laid table (numbers called target kind ps) v = numbers_laid v.0 ∷ all_laid table ps v.1
-  all_laid table (struct called s ps) v = struct_laid (section_of table s v.0) ∷ all_laid table ps v.1
-  all_laid table (struct_or_none called s ps) v = option_laid (section_of table s) v.0 ∷ all_laid table ps v.1
-  all_laid table (boxed called kind inner s ps) v = boxed_laid (map (section_of table s) v.0) ∷ all_laid table ps v.1
-  all_laid table (structs called target s ps) v = structs_laid (map (section_of table s) v.0) ∷ all_laid table ps v.1
-  all_laid table (branches called kind fields ps) v = structs_laid (branch_sections v.0) ∷ all_laid table ps v.1
+  all_laid table (struct called s ps) v = struct_laid (section_of table s v.0)
+      ∷ all_laid table ps v.1
+  all_laid table (struct_or_none called s ps) v
+      = option_laid (section_of table s) v.0 ∷ all_laid table ps v.1
+  all_laid table (boxed called kind inner s ps) v
+      = boxed_laid (map (section_of table s) v.0) ∷ all_laid table ps v.1
+  all_laid table (structs called target s ps) v
+      = structs_laid (map (section_of table s) v.0) ∷ all_laid table ps v.1
+  all_laid table (branches called kind fields ps) v
+      = structs_laid (branch_sections v.0) ∷ all_laid table ps v.1
   all_laid table (string_table called ps) v = texts_laid table ∷ all_laid table ps v
   all_laid table (unread called ps) v = nothing_laid ∷ all_laid table ps v

@@ -1,3 +1,4 @@
+-- What public contracts say.
 pub mod Shape
 pub mod Reading
 pub mod Names
@@ -8,6 +9,7 @@ pub mod Message
 pub mod Device
 pub mod Netlist
 pub mod Phys
+-- For private contracts and proofs.
 pub mod Packed
 pub mod Worked
 pub mod Slots

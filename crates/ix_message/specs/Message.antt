@@ -1,5 +1,7 @@
--- Messages in files: reading, encoding, and the law between them. A message's kind is its root struct.
-use Rattle.std.specs.Prelude.{◌≡◌, ℕ, ◌/◌, List, ◌++◌, length, Bool, false, not, ◌||◌, nat_le, Option, Some, None, Result, Ok, Err}
+-- Messages in files: reading, encoding, and the law between them. A message's kind is its root
+-- struct.
+use Rattle.std.specs.Prelude.{◌≡◌, ℕ, ◌/◌, List, ◌++◌, length, Bool, false, not, ◌||◌, nat_le}
+use Rattle.std.specs.Prelude.{Option, Some, None, Result, Ok, Err}
 use Rattle.byteorder.specs.Endian.{little_bytes}
 use Rattle.ix_num.specs.declared.fault.FrameFault.{FrameFault}
 use Rattle.ix_frame.specs.Result.{◌>>=◌}
@@ -22,7 +24,8 @@ framed (Ok x) = Ok x
 framed (Err f) = Err (frame f)
 
 -- The string table and the numbers of a message in these segments, or the first frame fault.
-unfoldable pub numbers_in_segments : (s : Struct) → Segments → Result (List Text × Value ℕ s) FrameFault
+unfoldable pub numbers_in_segments : (s : Struct) → Segments
+    → Result (List Text × Value ℕ s) FrameFault
 numbers_in_segments s all = do
   root ← root_of all (whole_budget all)
   found ← root_at s root.0 root.1
@@ -32,8 +35,8 @@ abbrev pub unless_bad : {A : Type 0} → Option Item → A → Result A Unread
 unless_bad None x = Ok x
 unless_bad (Some bad) x = Err (out_of_list bad)
 
--- A file's record: the first frame fault of the whole message counts, then the first bad index. F1 and F2 stand at no
--- word, so at word 0 of segment 0.
+-- A file's record: the first frame fault of the whole message counts, then the first bad index. F1
+-- and F2 stand at no word, so at word 0 of segment 0.
 unfoldable pub reading : (s : Struct) → List ℕ → Result (Value Datum s) Unread
 reading s bytes = do
   all ← framed (blamed 0 0 (segments bytes))
@@ -53,18 +56,23 @@ unfoldable pub encoding : (s : Struct) → Value Datum s → List ℕ
 encoding s r = let segment = segment_for s r in
     little_bytes 4 0 ++ little_bytes 4 (length segment / 8) ++ segment
 
--- A message of 2^27 words is too long, and so is one with a text or a list of structs that doesn't fit its count.
+-- A message of 2^27 words is too long, and so is one with a text or a list of structs that doesn't
+-- fit its count.
 unfoldable pub is_too_long : (s : Struct) → Value Datum s → Bool
 is_too_long s r =
-    nat_le too_many_words (length (segment_for s r) / 8) || not (struct_laid (section_of (table_of s r) s (numbers_of s r))).fits
+    nat_le too_many_words (length (segment_for s r) / 8)
+    || not (struct_laid (section_of (table_of s r) s (numbers_of s r))).fits
 
 -- Laws of records of any kind of message.
 
 -- A record's numbers, read by its string table, are the record.
 abbrev pub NamesAgain : Type 0
-NamesAgain = (s : Struct) (r : Value Datum s) → IsRecord (place_in (table_of s r)) s r → record_of (table_of s r) s (numbers_of s r) ≡ r
+NamesAgain = (s : Struct) (r : Value Datum s) → IsRecord (place_in (table_of s r)) s r
+    → record_of (table_of s r) s (numbers_of s r) ≡ r
 
--- What is encoded reads again as itself, unless a number of the record is out of its list or the message is too long.
+-- What is encoded reads again as itself, unless a number of the record is out of its list or the
+-- message is too long.
 abbrev pub ReadsAgain : (s : Struct) → Type 0
-ReadsAgain s = (r : Value Datum s) → IsRecord (place_in (table_of s r)) s r → first_bad s (length (table_of s r)) (numbers_of s r) ≡ None
+ReadsAgain s = (r : Value Datum s) → IsRecord (place_in (table_of s r)) s r
+    → first_bad s (length (table_of s r)) (numbers_of s r) ≡ None
     → is_too_long s r ≡ false → reading s (encoding s r) ≡ Ok r

@@ -1,10 +1,16 @@
--- Reading a message of any form from a frame: the first frame fault in reading order, or the numbers as they stand.
-use Rattle.std.specs.Prelude.{ℕ, zero, suc, ◌+◌, ◌%◌, ◌^◌, List, [], ◌∷◌, Option, Some, None, Result, Ok, if◌then◌else◌}
+-- Reading a message of any form from a frame: the first frame fault in reading order, or the
+-- numbers as they stand.
+use Rattle.std.specs.Prelude.{ℕ, zero, suc, ◌+◌, ◌%◌, ◌^◌, List, [], ◌∷◌, Option, Some, None}
+use Rattle.std.specs.Prelude.{Result, Ok, if◌then◌else◌}
 use Rattle.ix_num.specs.declared.fault.FrameFault.{FrameFault}
 use Rattle.ix_frame.specs.Result.{◌>>=◌}
-use Rattle.ix_frame.specs.Objects.{u32_in, text_at, struct_at, elements_at, list_at, has_pointer, element_of, numbers_in, text_in}
+use Rattle.ix_frame.specs.Objects.{u32_in, text_at, struct_at, elements_at, list_at, has_pointer}
+use Rattle.ix_frame.specs.Objects.{element_of, numbers_in, text_in}
 use Rattle.ix_frame.specs.Target.{Object, Elements}
-use Rattle.ix_message.specs.Shape.{Text, Kind, Field, Struct, Pointers, Branches, Value, Parts, flag, choice, bus_tag, struct_of, no_more, text, texts, numbers, struct, struct_or_none, boxed, structs, branches, string_table, unread, ends, branch}
+use Rattle.ix_message.specs.Shape.{Text, Kind, Field, Struct, Pointers, Branches, Value, Parts}
+use Rattle.ix_message.specs.Shape.{flag, choice, bus_tag, struct_of, no_more, text, texts, numbers}
+use Rattle.ix_message.specs.Shape.{struct, struct_or_none, boxed, structs, branches, string_table}
+use Rattle.ix_message.specs.Shape.{unread, ends, branch}
 
 abbrev pub Reads : Type 0 → Type 0
 Reads A = Result (A × ℕ) FrameFault
@@ -22,7 +28,8 @@ row_at [] slot o = []
 row_at (f ∷ fs) slot o = number_of f.kind (u32_in o slot) ∷ row_at fs (slot + 1) o
 
 -- n elements of a list from this one on, each read by the same reading
-unfoldable pub each_from : {A : Type 0} → (Object → ℕ → Reads A) → ℕ → Elements → ℕ → ℕ → Reads (List A)
+unfoldable pub each_from : {A : Type 0} → (Object → ℕ → Reads A) → ℕ → Elements → ℕ → ℕ
+    → Reads (List A)
 each_from read zero l i budget = Ok ([], budget)
 each_from read (suc n) l i budget = do
   first ← read (element_of l i) budget
@@ -42,8 +49,8 @@ texts_at o slot budget = do
   l ← list_at 6 o slot budget
   texts_from l.0.count l.0 0 l.1
 
--- n branches of a list, each with all that is below it before the next. Each branch costs something, so that a bound
--- above the budget at the list's own pointer isn't reached.
+-- n branches of a list, each with all that is below it before the next. Each branch costs
+-- something, so that a bound above the budget at the list's own pointer isn't reached.
 unfoldable pub branches_from : ℕ → List Field → ℕ → Elements → ℕ → ℕ → Reads (Branches (List ℕ))
 branches_from bound fields zero l i budget = Ok (ends, budget)
 branches_from zero fields (suc n) l i budget = Ok (ends, budget)
@@ -57,8 +64,8 @@ branches_from (suc bound) fields (suc n) l i budget = do
 abbrev pub some_of : {A : Type 0} → Reads A → Reads (Option A)
 some_of found = found >>= λ x. Ok (Some x.0, x.1)
 
--- A struct, and its pointers from this slot on: the content of each before the next pointer. The string table isn't
--- followed here, since it is read before all else.
+-- A struct, and its pointers from this slot on: the content of each before the next pointer. The
+-- string table isn't followed here, since it is read before all else.
 unfoldable mutual
   pub value_at : (s : Struct) → Object → ℕ → Reads (Value ℕ s)
   value_at (struct_of called fields ps) o budget = do

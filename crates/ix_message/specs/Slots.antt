@@ -1,6 +1,7 @@
 -- The constants of the code are the slots of the tables.
 use Prim.Native.String.{String}
-use Rattle.std.specs.Prelude.{ℕ, zero, suc, ◌+◌, ◌/◌, List, [], ◌∷◌, length, Bool, false, ◌&&◌, ◌==◌, codes}
+use Rattle.std.specs.Prelude.{ℕ, zero, suc, ◌+◌, ◌/◌, List, [], ◌∷◌, length, Bool, false, ◌&&◌}
+use Rattle.std.specs.Prelude.{◌==◌, codes}
 use Rattle.std.specs.List.{list_all}
 use Rattle.ix_message.specs.declared.slots.entry.TheConstants as entry_slots
 use Rattle.ix_message.specs.declared.slots.cell_instance.TheConstants as cell_instance_slots
@@ -21,10 +22,14 @@ use Rattle.ix_message.specs.declared.slots.packed_cluster.TheConstants as packed
 use Rattle.ix_message.specs.declared.slots.packed.TheConstants as packed_slots
 use Rattle.ix_message.specs.declared.slots.route_branch.TheConstants as route_branch_slots
 use Rattle.ix_message.specs.declared.slots.property_map.TheConstants as property_map_slots
-use Rattle.ix_message.specs.Shape.{Field, Struct, Pointers, struct_of, no_more, text, texts, numbers, struct, struct_or_none, boxed, structs, branches, string_table, unread}
+use Rattle.ix_message.specs.Shape.{Field, Struct, Pointers, struct_of, no_more, text, texts}
+use Rattle.ix_message.specs.Shape.{numbers, struct, struct_or_none, boxed, structs, branches}
+use Rattle.ix_message.specs.Shape.{string_table, unread}
 use Rattle.ix_message.specs.Names.{same_text}
-use Rattle.ix_message.specs.Netlist.{entry, cell_instance, cell_declaration, port_instance, net, cell, port, netlist}
-use Rattle.ix_message.specs.Phys.{pin_mapping, cell_placement, phys_net, site_instance, property, phys_netlist, segment}
+use Rattle.ix_message.specs.Netlist.{entry, cell_instance, cell_declaration, port_instance, net}
+use Rattle.ix_message.specs.Netlist.{cell, port, netlist}
+use Rattle.ix_message.specs.Phys.{pin_mapping, cell_placement, phys_net, site_instance, property}
+use Rattle.ix_message.specs.Phys.{phys_netlist, segment}
 use Rattle.ix_message.specs.Packed.{packed_cell, packed_cluster, packed}
 
 abbrev pub same_name : String → String → Bool
@@ -63,11 +68,12 @@ pointer_slot (struct_of kind fields ps) called slot = name_among (names_of ps) c
 
 -- the struct has sections of these sizes
 abbrev pub sections : Struct → ℕ → ℕ → Bool
-sections (struct_of kind fields ps) data_words pointers = (data_words == (length fields + 1) / 2) && pointers == length (names_of ps)
+sections (struct_of kind fields ps) data_words pointers
+    = (data_words == (length fields + 1) / 2) && pointers == length (names_of ps)
 
--- Each constant is the slot that the tables give its field. A branch and a property map have no table of their own: a
--- branch has the fields of a segment and one pointer, to the branches below it; a property map has one pointer, to its
--- entries.
+-- Each constant is the slot that the tables give its field. A branch and a property map have no
+-- table of their own: a branch has the fields of a segment and one pointer, to the branches below
+-- it; a property map has one pointer, to its entries.
 abbrev pub slots_agree : Bool
 slots_agree = list_all (λ agrees. agrees) (
     data_slot entry "key" entry_slots.KEY ∷

@@ -108,7 +108,8 @@ pair_record = (
               ),
             ) ∷ []),
             (
-              (((name "d0" ∷ plain 1 ∷ []), ([], tt)) ∷ ((name "e0" ∷ plain 2 ∷ []), ([], tt)) ∷ []),
+              (((name "d0" ∷ plain 1 ∷ []), ([], tt)) ∷ ((name "e0" ∷ plain 2 ∷ []), ([], tt))
+                  ∷ []),
               (
                 ((
                   (plain 0
@@ -144,7 +145,8 @@ pair_record = (
 -- A bus, a net on one of its bits, and properties of the three kinds.
 abbrev pub bus_file : List ℕ
 bus_file = file_of (
-    0x3400000000 ∷ 0x8000000000000 ∷ 0x120000001d ∷ 0x100000000001c ∷ 0x1000100000038 ∷ 0x360000003d ∷
+    0x3400000000 ∷ 0x8000000000000 ∷ 0x120000001d ∷ 0x100000000001c ∷ 0x1000100000038 ∷ 0x360000003d
+    ∷
     0x1700000069 ∷ 0x2700000075 ∷ 0 ∷ 0x1f00000081 ∷ 0x70 ∷ 0x3700000001 ∷
     0x20000000c ∷ 0 ∷ 1 ∷ 0x100000002 ∷ 7 ∷ 0x200000000 ∷
     1 ∷ 3 ∷ 0 ∷ 0x1200000015 ∷ 0x1200000015 ∷ 0x1200000015 ∷
@@ -300,7 +302,8 @@ tile_record = (
                 (name "S1" ∷ []),
                 tt,
               ),
-            ) ∷ ((plain 1 ∷ []), ((name "T0" ∷ []), tt)) ∷ ((plain 1 ∷ []), ((name "T1" ∷ []), tt)) ∷ []),
+            ) ∷ ((plain 1 ∷ []), ((name "T0" ∷ []), tt)) ∷ ((plain 1 ∷ []), ((name "T1" ∷ []), tt))
+                ∷ []),
             (
               (name "S0" ∷
                   name "S1" ∷ name "T0" ∷ name "T1" ∷ []),
@@ -313,7 +316,8 @@ tile_record = (
             (name "M0" ∷ plain 0 ∷ plain 0 ∷ plain 0 ∷
                 []),
             (
-              (((name "s0" ∷ plain 0 ∷ []), tt) ∷ ((name "s1" ∷ plain 1 ∷ []), tt) ∷ ((name "t0" ∷ plain 2 ∷ []), tt) ∷
+              (((name "s0" ∷ plain 0 ∷ []), tt) ∷ ((name "s1" ∷ plain 1 ∷ []), tt)
+                  ∷ ((name "t0" ∷ plain 2 ∷ []), tt) ∷
                   ((name "t1" ∷ plain 3 ∷ []), tt) ∷ []),
               tt,
             ),
@@ -439,8 +443,10 @@ routed_record = (
           (name "n0" ∷ plain 0 ∷ []),
           (
             (branch (plain 0 ∷ name "s0" ∷ name "OB"
-                ∷ name "O" ∷ plain 0 ∷ []) (branch (plain 1 ∷ name "s0" ∷ name "O" ∷ plain 0 ∷ plain 0 ∷ []) (branch (plain 1 ∷
-                name "t0" ∷ name "I" ∷ plain 0 ∷ plain 0 ∷ []) (branch (plain 0 ∷ name "t0" ∷ name "IB" ∷ name "I" ∷ plain 0 ∷
+                ∷ name "O" ∷ plain 0 ∷ []) (branch (plain 1 ∷ name "s0" ∷ name "O" ∷ plain 0
+                ∷ plain 0 ∷ []) (branch (plain 1 ∷
+                name "t0" ∷ name "I" ∷ plain 0 ∷ plain 0 ∷ [])
+                (branch (plain 0 ∷ name "t0" ∷ name "IB" ∷ name "I" ∷ plain 0 ∷
                 []) ends ends) ends) ends) ends),
             (
               (branch (plain 2 ∷ name "M0" ∷ name "S0" ∷ name "T0" ∷ plain 1 ∷ []) ends
@@ -712,11 +718,13 @@ self_pointer = file_of (0x100000000 ∷ 0x10000fffffffc ∷ [])
 
 -- A design with a name in its string table and nothing else: its top instance has no declaration.
 abbrev pub no_declaration : List ℕ
-no_declaration = file_of (0x700000000 ∷ 0x4000000000000 ∷ 0 ∷ 0 ∷ 0 ∷ 0xe00000001 ∷ 0x1200000001 ∷ 0x61 ∷ [])
+no_declaration = file_of (0x700000000 ∷ 0x4000000000000 ∷ 0 ∷ 0 ∷ 0 ∷ 0xe00000001 ∷ 0x1200000001
+    ∷ 0x61 ∷ [])
 
--- A design of three declarations (one without ports, one with port 0, one with port 1), two ports (0 a bit, 1 a bus of
--- four), three instances (of declarations 1, 2 and 1) and a cell that has the first two, with a net of two port
--- instances, the second with this row: port, bus tag, bit, owner tag, instance.
+-- A design of three declarations (one without ports, one with port 0, one with port 1), two ports
+-- (0 a bit, 1 a bus of four), three instances (of declarations 1, 2 and 1) and a cell that has the
+-- first two, with a net of two port instances, the second with this row: port, bus tag, bit, owner
+-- tag, instance.
 abbrev pub with_port_instance : List ℕ → Value ℕ netlist
 with_port_instance row = (
   [],
@@ -732,7 +740,22 @@ with_port_instance row = (
             (((3 ∷ 1 ∷ 0 ∷ 0 ∷ 0 ∷ []), ([], tt)) ∷ ((4 ∷ 0 ∷ 1 ∷ 3 ∷ 0 ∷ []), ([], tt)) ∷ []),
             (
               (((5 ∷ 1 ∷ []), ([], tt)) ∷ ((6 ∷ 2 ∷ []), ([], tt)) ∷ ((7 ∷ 1 ∷ []), ([], tt)) ∷ []),
-              ((((0 ∷ []), ((0 ∷ 1 ∷ []), ((((8 ∷ []), ((((0 ∷ 0 ∷ 0 ∷ 1 ∷ 0 ∷ []), tt) ∷ (row, tt) ∷ []), tt)) ∷ []), tt))) ∷ []), tt),
+              (
+                ((
+                  (0 ∷ []),
+                  (
+                    (0 ∷ 1 ∷ []),
+                    (
+                      ((
+                        (8 ∷ []),
+                        ((((0 ∷ 0 ∷ 0 ∷ 1 ∷ 0 ∷ []), tt) ∷ (row, tt) ∷ []), tt),
+                      ) ∷ []),
+                      tt,
+                    ),
+                  ),
+                ) ∷ []),
+                tt,
+              ),
             ),
           ),
         ),
@@ -741,16 +764,30 @@ with_port_instance row = (
   ),
 )
 
--- A net with one source, of this row, and below it a branch of the other: kind, first, second, third, forward.
+-- A net with one source, of this row, and below it a branch of the other: kind, first, second,
+-- third, forward.
 abbrev pub with_branches : List ℕ → List ℕ → Value ℕ phys_netlist
-with_branches row below = ([], ([], ([], ((((0 ∷ 0 ∷ []), (branch row (branch below ends ends) ends, (ends, tt))) ∷ []), ([], ([], tt))))))
+with_branches row below = (
+  [],
+  (
+    [],
+    (
+      [],
+      (
+        (((0 ∷ 0 ∷ []), (branch row (branch below ends ends) ends, (ends, tt))) ∷ []),
+        ([], ([], tt)),
+      ),
+    ),
+  ),
+)
 
 -- a field of the second struct of its name
 abbrev pub second : String → String → Option Item
 second kind field = Some (record { kind = codes kind; field = codes field; index = 1 })
 
--- What the cases of a device change: the row of a BEL, of a site PIP, of a tile, of its site and of a package pin, the
--- pins of a site wire, the row of a PIP, and the wires of a constant source and of a node.
+-- What the cases of a device change: the row of a BEL, of a site PIP, of a tile, of its site and of
+-- a package pin, the pins of a site wire, the row of a PIP, and the wires of a constant source and
+-- of a node.
 pub record Rows : Type 0 where
   pub bel : List ℕ
   pub site_pip : List ℕ
@@ -776,20 +813,47 @@ fitting = record {
   package_pin = 0 ∷ 1 ∷ 1 ∷ [];
 }
 
--- A device of two strings with two site types (0 with one BEL pin, 1 with three, and with the BEL, the site PIP and the
--- site wire), two tile types (0 with no site types and three wires, 1 with one site type and two wires, and with the PIP
--- and the constant source), a tile with a site, a wire, a node and a package with a pin.
+-- A device of two strings with two site types (0 with one BEL pin, 1 with three, and with the BEL,
+-- the site PIP and the site wire), two tile types (0 with no site types and three wires, 1 with one
+-- site type and two wires, and with the PIP and the constant source), a tile with a site, a wire, a
+-- node and a package with a pin.
 abbrev pub with_rows : Rows → Value ℕ device
 with_rows rows = (
   [],
   (
     [],
     (
-      (((0 ∷ []), ((((0 ∷ 0 ∷ 0 ∷ []), tt) ∷ []), ([], ([], ([], ([], tt)))))) ∷
-          ((1 ∷ []), ((((0 ∷ 0 ∷ 0 ∷ []), tt) ∷ ((0 ∷ 1 ∷ 0 ∷ []), tt) ∷ ((0 ∷ 2 ∷ 0 ∷ []), tt) ∷ []), ((((0 ∷ 0 ∷ 2 ∷ []), tt) ∷ []), (((rows.bel, tt) ∷ []), (((rows.site_pip, tt) ∷ []), ((((1 ∷ []), (rows.pins, tt)) ∷ []), tt)))))) ∷ []),
+      (((0 ∷ []), ((((0 ∷ 0 ∷ 0 ∷ []), tt) ∷ []), ([], ([], ([], ([], tt)))))) ∷ (
+        (1 ∷ []),
+        (
+          (((0 ∷ 0 ∷ 0 ∷ []), tt) ∷ ((0 ∷ 1 ∷ 0 ∷ []), tt) ∷ ((0 ∷ 2 ∷ 0 ∷ []), tt)
+              ∷ []),
+          (
+            (((0 ∷ 0 ∷ 2 ∷ []), tt) ∷ []),
+            (
+              ((rows.bel, tt) ∷ []),
+              (
+                ((rows.site_pip, tt) ∷ []),
+                ((((1 ∷ []), (rows.pins, tt)) ∷ []), tt),
+              ),
+            ),
+          ),
+        ),
+      ) ∷ []),
       (
-        (((0 ∷ []), ([], ((0 ∷ 1 ∷ 1 ∷ []), ([], ([], tt))))) ∷
-            ((0 ∷ []), ((((1 ∷ []), ([], tt)) ∷ []), ((0 ∷ 1 ∷ []), (((rows.pip, tt) ∷ []), ((((2 ∷ []), (rows.sources, tt)) ∷ []), tt))))) ∷ []),
+        (((0 ∷ []), ([], ((0 ∷ 1 ∷ 1 ∷ []), ([], ([], tt))))) ∷ (
+          (0 ∷ []),
+          (
+            (((1 ∷ []), ([], tt)) ∷ []),
+            (
+              (0 ∷ 1 ∷ []),
+              (
+                ((rows.pip, tt) ∷ []),
+                ((((2 ∷ []), (rows.sources, tt)) ∷ []), tt),
+              ),
+            ),
+          ),
+        ) ∷ []),
         (
           ((rows.tile, (((rows.site, tt) ∷ []), tt)) ∷ []),
           (

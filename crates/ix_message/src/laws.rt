@@ -13,14 +13,14 @@ pub fn slots_are_those_of_the_tables()
     ensures { IsTrue slots_agree }
 {}
 
-/// The texts of a record of any message, which its file has as places in the string table, are found again by that
-/// table.
+/// The texts of a record of any message, which its file has as places in the string table, are
+/// found again by that table.
 pub fn names_stand_for_their_texts()
     ensures { NamesAgain }
 {}
 
-/// What is encoded reads again as itself, for each record of the four messages in which no number is out of its list,
-/// unless its file is too long.
+/// What is encoded reads again as itself, for each record of the four messages in which no number
+/// is out of its list, unless its file is too long.
 pub fn messages_read_again()
     ensures device { ReadsAgain device }
     ensures netlist { ReadsAgain netlist }

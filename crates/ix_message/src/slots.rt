@@ -1,6 +1,7 @@
-//! The slots of the fields of the messages' structs: of a data field its number among the slots of 32 bits, of a pointer
-//! field its number in the pointer section; and of each struct how many data words and pointers it is written with.
-//! Readers and writers take their slots from here, and a proof ties them to the tables of `specs/`.
+//! The slots of the fields of the messages' structs: of a data field its number among the slots of
+//! 32 bits, of a pointer field its number in the pointer section; and of each struct how many data
+//! words and pointers it is written with. Readers and writers take their slots from here, and a
+//! proof ties them to the tables of `specs/`.
 
 /// Slots of `Entry`.
 pub mod entry {

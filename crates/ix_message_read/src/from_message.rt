@@ -9,8 +9,8 @@ use ix_frame::{Budget, List, Obj};
 use ix_rec::{Items, ReadFault};
 use std::alloc::Global;
 
-/// A struct of a message, with its numbers as they stand in the file: a string number is a place in the string table,
-/// and no index has been asked whether it is in its list.
+/// A struct of a message, with its numbers as they stand in the file: a string number is a place in
+/// the string table, and no index has been asked whether it is in its list.
 pub trait FromMessage<'a>: Sized + Drop {
     ghost use Rattle.std.specs.Prelude.{ℕ};
     ghost use Rattle.ix_message.specs.Shape.{Struct, Value};
@@ -19,19 +19,23 @@ pub trait FromMessage<'a>: Sized + Drop {
 
     ghost value: { Self → Value ℕ shape };
 
-    /// The struct at this place, with all that its pointers lead to, in reading order. What is read is taken from the
-    /// budget. Else the first fault of the frame.
+    /// The struct at this place, with all that its pointers lead to, in reading order. What is read
+    /// is taken from the budget. Else the first fault of the frame.
     fn read(alloc: Global, o: Obj<'a>, budget: &mut Budget) -> Result<Self, ReadFault>
-        ensures { Tells Self.value result budget.new (value_at Self.shape (object_of o.entry) budget.old) };
+        ensures { Tells Self.value result budget.new
+            (value_at Self.shape (object_of o.entry) budget.old) };
 }
 
-/// The structs of a list, each with all that its pointers lead to before the next. Else the first fault of the frame.
+/// The structs of a list, each with all that its pointers lead to before the next. Else the first
+/// fault of the frame.
 pub fn read_list<'a, T: FromMessage<'a>>(
     alloc: Global,
     l: List<'a>,
     budget: &mut Budget,
 ) -> Result<Items<T>, ReadFault>
-    ensures { Tells (λ v. map T.value v) result budget.new (each_from (value_at T.shape) (elements_of l.entry).count (elements_of l.entry) 0 budget.old) }
+    ensures { Tells (λ v. map T.value v) result budget.new
+        (each_from (value_at T.shape) (elements_of l.entry).count (elements_of l.entry) 0
+        budget.old) }
 {
     let mut found = Items::with_capacity(alloc, l.len() as usize)?;
     for i in 0..l.len() {

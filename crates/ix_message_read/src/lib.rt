@@ -1,5 +1,5 @@
-//! What the readers of messages share: a struct of a message is a type that can be read from a frame, and lists of
-//! structs, of numbers and of texts are read by one function each.
+//! What the readers of messages share: a struct of a message is a type that can be read from a
+//! frame, and lists of structs, of numbers and of texts are read by one function each.
 #![tactic(auto)]
 
 mod from_message;

@@ -16,7 +16,8 @@ fn texts_of<'a>(
     l: Texts<'a>,
     budget: &mut Budget,
 ) -> Result<Items<&'a str>, ReadFault>
-    ensures { Tells (λ v. map (λ t. t.now) v) result budget.new (texts_from (text_elements l.entry).count (text_elements l.entry) 0 budget.old) }
+    ensures { Tells (λ v. map (λ t. t.now) v) result budget.new
+        (texts_from (text_elements l.entry).count (text_elements l.entry) 0 budget.old) }
 {
     let mut found = Items::with_capacity(alloc, l.len() as usize)?;
     for i in 0..l.len() {
@@ -29,7 +30,8 @@ fn texts_of<'a>(
     Ok(found)
 }
 
-/// The texts of the list behind this pointer, which are slices of the file. Else the first fault of the frame.
+/// The texts of the list behind this pointer, which are slices of the file. Else the first fault of
+/// the frame.
 #[tactic(auto, unfolding(ix_message::specs::Reading::texts_at))]
 pub fn read_texts<'a>(
     alloc: Global,
@@ -37,7 +39,8 @@ pub fn read_texts<'a>(
     slot: u32,
     budget: &mut Budget,
 ) -> Result<Items<&'a str>, ReadFault>
-    ensures { Tells (λ v. map (λ t. t.now) v) result budget.new (texts_at (object_of o.entry) slot budget.old) }
+    ensures { Tells (λ v. map (λ t. t.now) v) result budget.new
+        (texts_at (object_of o.entry) slot budget.old) }
 {
     let l = o.texts(slot, budget)?;
     texts_of(alloc, l, budget)

@@ -16,9 +16,11 @@ pub record HasNoted (names : List Text) (before after : Strings) (uses : List Te
   pub table : IsTableOf names after
 
 -- A table takes note of texts that are used, or they are too many for a message.
-abbrev pub Notes : {X : Type 0} → List Text → Strings → Strings → List Text → Result X BuildFault → Type 0
+abbrev pub Notes : {X : Type 0} → List Text → Strings → Strings → List Text → Result X BuildFault
+    → Type 0
 Notes names before after uses (Ok x) = HasNoted names before after uses
-Notes names before after uses (Err TooLong) = 2 ^ 27 ≤ length (first_uses (table_in names before) uses)
+Notes names before after uses (Err TooLong)
+    = 2 ^ 27 ≤ length (first_uses (table_in names before) uses)
 Notes names before after uses (Err Memory) = Unit {0}
 
 -- the struct at this word was written, with all that its pointers lead to

@@ -1,8 +1,11 @@
 -- The string table of a message that is being written, over the names of a run.
-use Rattle.std.specs.Prelude.{◌≡◌, ◌≤◌, ◌<◌, ℕ, ◌+◌, ◌^◌, List, [], map, length, slice_index, slice_index_or, Bool, true, false, IsTrue, if◌then◌else◌}
+use Rattle.std.specs.Prelude.{◌≡◌, ◌≤◌, ◌<◌, ℕ, ◌+◌, ◌^◌, List, [], map, length, slice_index}
+use Rattle.std.specs.Prelude.{slice_index_or, Bool, true, false, IsTrue, if◌then◌else◌}
 use Rattle.std.specs.List.{All}
 use Rattle.ix_strings.specs.Names.{AllDiffer}
-use Rattle.ix_message.specs.Shape.{Text, Struct, Pointers, struct_of, no_more, text, texts, numbers, struct, struct_or_none, boxed, structs, branches, string_table, unread}
+use Rattle.ix_message.specs.Shape.{Text, Struct, Pointers, struct_of, no_more, text, texts, numbers}
+use Rattle.ix_message.specs.Shape.{struct, struct_or_none, boxed, structs, branches, string_table}
+use Rattle.ix_message.specs.Shape.{unread}
 use Rattle.ix_message.specs.Names.{has_text, place_in}
 use Rattle.ix_message_write.specs.declared.string_table.Strings.{Strings}
 
@@ -26,7 +29,8 @@ place_and_one table t = if has_text table t then place_in table t + 1 else 0
 pub record IsTableOf (names : List Text) (s : Strings) : Type 0 where
   pub differ : AllDiffer names
   pub long : length s.places.items ≡ length names
-  pub placed : (id : ℕ) → id < length names → slice_index s.places.items id ≡ place_and_one (table_in names s) (name_text names id)
+  pub placed : (id : ℕ) → id < length names
+      → slice_index s.places.items id ≡ place_and_one (table_in names s) (name_text names id)
   pub used : All (λ id. id < length names) s.used.items
   pub few : length s.used.items ≤ 2 ^ 27
 

@@ -1,5 +1,6 @@
-//! What the writers of messages share: for each struct of a message a type says which names it uses and
-//! how it is written into a builder; lists of structs, the string table and whole messages are written by one function each.
+//! What the writers of messages share: for each struct of a message a type says which names it uses
+//! and how it is written into a builder; lists of structs, the string table and whole messages are
+//! written by one function each.
 #![tactic(auto)]
 
 mod lists;

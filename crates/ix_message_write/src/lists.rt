@@ -15,7 +15,8 @@ use ix_rec::Items;
 use ix_strings::Names;
 use std::alloc::Global;
 
-/// Takes note of the names that each struct of a list uses, with all that its pointers lead to before the next.
+/// Takes note of the names that each struct of a list uses, with all that its pointers lead to
+/// before the next.
 pub fn note_list<T: StructWriter>(
     list: &Items<T::Item>,
     names: &Names,
@@ -23,7 +24,8 @@ pub fn note_list<T: StructWriter>(
 ) -> Result<(), BuildFault>
     requires named { All (T.is_named names.now) list.now }
     requires table { IsTableOf names.now strings.old }
-    ensures { Notes names.now strings.old strings.new (flat_map (uses T.shape) (map (T.record_by names.now) list.now)) result }
+    ensures { Notes names.now strings.old strings.new
+        (flat_map (uses T.shape) (map (T.record_by names.now) list.now)) result }
 {
     for i in 0..list.len() {
         match T::note(list.at(i), names, strings) {
@@ -34,7 +36,8 @@ pub fn note_list<T: StructWriter>(
     Ok(())
 }
 
-/// Puts a list of structs, each with all that its pointers lead to, and leads the pointer in this slot to it.
+/// Puts a list of structs, each with all that its pointers lead to, and leads the pointer in this
+/// slot to it.
 pub fn write_list<T: StructWriter>(
     alloc: Global,
     list: &Items<T::Item>,
@@ -48,7 +51,10 @@ pub fn write_list<T: StructWriter>(
     requires table { IsTableOf names.now strings.now }
     requires inside { IsInside at builder.old }
     requires slot { slot < at.pointers }
-    ensures { Puts (pointer_word at slot) (structs_laid (map (section_of (table_in names.now strings.now) T.shape) (map (numbered (place_in (table_in names.now strings.now)) T.shape) (map (T.record_by names.now) list.now)))) builder.old builder.new result }
+    ensures { Puts (pointer_word at slot) (structs_laid
+        (map (section_of (table_in names.now strings.now) T.shape)
+        (map (numbered (place_in (table_in names.now strings.now)) T.shape)
+        (map (T.record_by names.now) list.now)))) builder.old builder.new result }
 {
     if list.len() >= 1 << 30 {
         return Err(BuildFault::TooLong);

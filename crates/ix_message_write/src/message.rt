@@ -22,9 +22,11 @@ pub fn write_message<T: StructWriter>(
 ) -> Result<Vec<u8>, BuildFault>
     requires named { T.is_named names.now root.now }
     requires root { IsRoot T.shape }
-    ensures bytes { IfOk result (λ file. file.items ≡ encoding T.shape (T.record_by names.now root.now)) }
+    ensures bytes { IfOk result (λ file. file.items
+        ≡ encoding T.shape (T.record_by names.now root.now)) }
     ensures fits { OnOk result (is_too_long T.shape (T.record_by names.now root.now) ≡ false) }
-    ensures too_long { result ≡ Err BuildFault.TooLong → IsTrue (is_too_long T.shape (T.record_by names.now root.now)) }
+    ensures too_long { result ≡ Err BuildFault.TooLong
+        → IsTrue (is_too_long T.shape (T.record_by names.now root.now)) }
 {
     let mut strings = match Strings::new(alloc, names) {
         Ok(strings) => strings,

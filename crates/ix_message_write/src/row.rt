@@ -6,14 +6,15 @@ ghost use Rattle.ix_capw.specs.Growth.{written, IsInside, IsSegment};
 
 use ix_capw::{At, Builder};
 
-/// Sets the whole data section of a struct: these numbers in its slots, and zero in the half word behind them where there
-/// is one.
+/// Sets the whole data section of a struct: these numbers in its slots, and zero in the half word
+/// behind them where there is one.
 pub fn write_row(builder: &mut Builder, at: At, numbers: &[u32])
     requires inside { IsInside at builder.old }
     requires segment { IsSegment builder.old }
     requires whole { at.words ≡ (length numbers.now + 1) / 2 }
     requires few { length numbers.now < 2 ^ 16 }
-    ensures made { builder.new ≡ written (8 * at.start) (8 * at.words) (data_section numbers.now) builder.old }
+    ensures made { builder.new ≡ written (8 * at.start) (8 * at.words) (data_section numbers.now)
+        builder.old }
     ensures segment { IsSegment builder.new }
 {
     write_numbers(builder, at, numbers);
@@ -28,7 +29,8 @@ fn write_numbers(builder: &mut Builder, at: At, numbers: &[u32])
     requires segment { IsSegment builder.old }
     requires short { length numbers.now ≤ 2 * at.words }
     requires few { length numbers.now < 2 ^ 16 }
-    ensures made { builder.new ≡ written (8 * at.start) (4 * length numbers.now) (number_bytes numbers.now) builder.old }
+    ensures made { builder.new ≡ written (8 * at.start) (4 * length numbers.now)
+        (number_bytes numbers.now) builder.old }
     ensures len { length builder.new ≡ length builder.old }
     ensures segment { IsSegment builder.new }
 {

@@ -1,5 +1,5 @@
-//! The string table of a message that is being written: each text once, in the order of first use. Texts are told by
-//! the numbers of their names, so none is compared.
+//! The string table of a message that is being written: each text once, in the order of first use.
+//! Texts are told by the numbers of their names, so none is compared.
 
 ghost use Rattle.std.specs.Prelude.{◌≡◌, ◌<◌, ◌∷◌, [], length, map, IfOk};
 ghost use Rattle.std.specs.List.{All};

@@ -12,8 +12,9 @@ use ix_capw::{At, BuildFault, Builder};
 use ix_strings::Names;
 use std::alloc::Global;
 
-/// How an item is written as a struct of a message. Names in it are numbers of the run's table of names. It is a type
-/// beside the item's own, which stands in a crate that knows nothing of messages.
+/// How an item is written as a struct of a message. Names in it are numbers of the run's table of
+/// names. It is a type beside the item's own, which stands in a crate that knows nothing of
+/// messages.
 pub trait StructWriter {
     ghost use Rattle.std.specs.Prelude.{ℕ, List};
     ghost use Rattle.ix_message.specs.Shape.{Struct, Value, Text};
@@ -44,7 +45,8 @@ pub trait StructWriter {
     fn note(item: &Self::Item, names: &Names, strings: &mut Strings) -> Result<(), BuildFault>
         requires named { is_named names.now item.now }
         requires table { IsTableOf names.now strings.old }
-        ensures { Notes names.now strings.old strings.new (uses shape (record_by names.now item.now)) result };
+        ensures { Notes names.now strings.old strings.new
+            (uses shape (record_by names.now item.now)) result };
 
     /// Writes its sections, and all that its pointers lead to.
     fn write(
@@ -61,7 +63,11 @@ pub trait StructWriter {
         requires segment { IsSegment builder.old }
         requires words { at.words ≡ WORDS }
         requires pointers { at.pointers ≡ POINTERS }
-        ensures { Writes at.start (section_of (table_in names.now strings.now) shape (numbered (place_in (table_in names.now strings.now)) shape (record_by names.now item.now))) builder.old builder.new result };
+        ensures { Writes at.start (section_of (table_in names.now strings.now) shape
+            (numbered (place_in (table_in names.now strings.now)) shape
+            (record_by names.now item.now))) builder.old builder.new result };
 
-    ghost is_wide: { (names table : List Text) (x : Self.Item) → IsWide WORDS POINTERS (section_of table shape (numbered (place_in table) shape (record_by names x))) };
+    ghost is_wide: { (names table : List Text) (x : Self.Item)
+        → IsWide WORDS POINTERS (section_of table shape
+        (numbered (place_in table) shape (record_by names x))) };
 }

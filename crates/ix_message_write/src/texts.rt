@@ -33,7 +33,8 @@ pub fn write_strings(
     requires table { IsTableOf names.now strings.now }
     requires inside { IsInside at builder.old }
     requires slot { slot < at.pointers }
-    ensures { Puts (pointer_word at slot) (texts_laid (table_in names.now strings.now)) builder.old builder.new result }
+    ensures { Puts (pointer_word at slot) (texts_laid (table_in names.now strings.now)) builder.old
+        builder.new result }
 {
     let used = strings.used();
     let count = used.len() as u32;
@@ -51,8 +52,8 @@ pub fn write_strings(
     Ok(())
 }
 
-/// Each name is UTF-8. A `str` is that by its type, but contracts see a table of names as lists of bytes: looking each
-/// name up tells them so. It costs one look at each name.
+/// Each name is UTF-8. A `str` is that by its type, but contracts see a table of names as lists of
+/// bytes: looking each name up tells them so. It costs one look at each name.
 pub fn names_are_utf8(names: &Names)
     ensures { All IsText names.now }
 {

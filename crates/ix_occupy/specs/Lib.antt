@@ -1,7 +1,7 @@
--- What a list of steps means, what contracts see of an occupancy, and the cost of a node.
+-- What public contracts say.
 pub mod Steps
 pub mod Loads
 pub mod Costs
--- Only for private contracts and proofs.
 pub mod Kept
+-- For private contracts and proofs.
 pub mod Held

@@ -1,4 +1,6 @@
+-- What public contracts say.
 pub mod Trees
-pub mod Made
 pub mod Record
+-- For private contracts and proofs.
+pub mod Made
 pub mod Wide

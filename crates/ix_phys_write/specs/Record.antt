@@ -3,7 +3,8 @@ use Rattle.std.specs.Prelude.{ℕ, ◌<◌, List, [], ◌∷◌, map, length, Bo
 use Rattle.std.specs.List.{All}
 use Rattle.ix_message.specs.Shape.{Text, Value}
 use Rattle.ix_message.specs.Names.{Datum, the_number, the_text, branches_map}
-use Rattle.ix_message.specs.Phys.{pin_mapping, cell_placement, site_instance, property, phys_net, phys_netlist}
+use Rattle.ix_message.specs.Phys.{pin_mapping, cell_placement, site_instance, property, phys_net}
+use Rattle.ix_message.specs.Phys.{phys_netlist}
 use Rattle.ix_message_write.specs.Table.{name_text}
 use Rattle.ix_rec.specs.declared.forest.Branch.{Branch}
 use Rattle.ix_rec.specs.declared.phys.PinMapping.{PinMapping}
@@ -23,11 +24,17 @@ abbrev pub named : List Text → ℕ → Datum
 named names id = the_text (name_text names id)
 
 abbrev pub pin_mapping_record : List Text → PinMapping → Value Datum pin_mapping
-pin_mapping_record names p = (named names p.cell_pin ∷ named names p.bel ∷ named names p.bel_pin ∷ [], tt)
+pin_mapping_record names p = (
+  named names p.cell_pin ∷ named names p.bel ∷ named names p.bel_pin
+      ∷ [],
+  tt,
+)
 
 abbrev pub placement_record : List Text → CellPlacement → Value Datum cell_placement
-placement_record names p =
-    (named names p.cell_name ∷ named names p.ty ∷ named names p.site ∷ named names p.bel ∷ [], (map (pin_mapping_record names) p.pin_map, tt))
+placement_record names p = (
+  named names p.cell_name ∷ named names p.ty ∷ named names p.site ∷ named names p.bel ∷ [],
+  (map (pin_mapping_record names) p.pin_map, tt),
+)
 
 abbrev pub site_instance_record : List Text → SiteInstance → Value Datum site_instance
 site_instance_record names i = (named names i.site ∷ named names i.ty ∷ [], tt)
@@ -51,7 +58,8 @@ flag_number b = if b then 1 else 0
 
 abbrev pub segment_row : List Text → Segment → List Datum
 segment_row names s =
-    the_number (kind_number s.kind) ∷ named names s.first ∷ named names s.second ∷ third names s.kind s.third ∷ the_number (flag_number s.forward) ∷ []
+    the_number (kind_number s.kind) ∷ named names s.first ∷ named names s.second
+    ∷ third names s.kind s.third ∷ the_number (flag_number s.forward) ∷ []
 
 abbrev pub type_number : NetType → ℕ
 type_number Signal = 0
@@ -59,12 +67,31 @@ type_number Gnd = 1
 type_number Vcc = 2
 
 abbrev pub net_record : List Text → PhysNet → Value Datum phys_net
-net_record names n =
-    (named names n.name ∷ the_number (type_number n.ty) ∷ [], (branches_map (segment_row names) (trees_at 0 n.sources), (branches_map (segment_row names) (trees_at 0 n.stubs), tt)))
+net_record names n = (
+  named names n.name ∷ the_number (type_number n.ty) ∷ [],
+  (
+    branches_map (segment_row names) (trees_at 0 n.sources),
+    (branches_map (segment_row names) (trees_at 0 n.stubs), tt),
+  ),
+)
 
 abbrev pub phys_record : List Text → Phys → Value Datum phys_netlist
-phys_record names p =
-    ([], (name_text names p.part, (map (placement_record names) p.placements, (map (net_record names) p.nets, (map (site_instance_record names) p.site_insts, (map (property_record names) p.properties, tt))))))
+phys_record names p = (
+  [],
+  (
+    name_text names p.part,
+    (
+      map (placement_record names) p.placements,
+      (
+        map (net_record names) p.nets,
+        (
+          map (site_instance_record names) p.site_insts,
+          (map (property_record names) p.properties, tt),
+        ),
+      ),
+    ),
+  ),
+)
 
 -- The names in a record are names of the run.
 

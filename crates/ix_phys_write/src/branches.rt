@@ -4,7 +4,8 @@ ghost use Rattle.std.specs.Prelude.{◌≡◌, ◌+◌, ◌*◌, ◌<◌, ◌≤
 ghost use Rattle.std.specs.List.{All, flat_map};
 ghost use Rattle.ix_message.specs.Layout.{structs_laid, branch_sections, data_section};
 ghost use Rattle.ix_message.specs.Names.{branch_uses, branches_map, number_for, place_in, text_in};
-ghost use Rattle.ix_capw.specs.Growth.{written, with_object, blank_structs, pointer_word, IsInside, IsSegment};
+ghost use Rattle.ix_capw.specs.Growth.{written, with_object, blank_structs, pointer_word, IsInside};
+ghost use Rattle.ix_capw.specs.Growth.{IsSegment};
 ghost use Rattle.ix_message_write.specs.Table.{table_in, IsTableOf};
 ghost use Rattle.ix_message_write.specs.Says.{Notes, Puts};
 ghost use Rattle.ix_phys_write.specs.Record.{segment_row, kind_number, IsSegmentNamed};
@@ -31,7 +32,8 @@ pub fn note_branches(
 ) -> Result<(), BuildFault>
     requires named { All (IsSegmentNamed names.now) forest.now }
     requires table { IsTableOf names.now strings.old }
-    ensures { Notes names.now strings.old strings.new (branch_uses (branches_map (segment_row names.now) (trees_at 0 forest.now))) result }
+    ensures { Notes names.now strings.old strings.new
+        (branch_uses (branches_map (segment_row names.now) (trees_at 0 forest.now))) result }
 {
     for i in 0..forest.len() {
         match note_branch(forest.at(i), names, strings) {
@@ -49,7 +51,8 @@ fn note_branch(
 ) -> Result<(), BuildFault>
     requires named { IsSegmentNamed names.now branch.now }
     requires table { IsTableOf names.now strings.old }
-    ensures { Notes names.now strings.old strings.new (flat_map text_in (segment_row names.now branch.now.item)) result }
+    ensures { Notes names.now strings.old strings.new
+        (flat_map text_in (segment_row names.now branch.now.item)) result }
 {
     let segment = branch.item;
     match segment.kind {
@@ -58,8 +61,8 @@ fn note_branch(
     }
 }
 
-/// Puts trees, and leads the pointer in this slot to the list of their roots. Items are written in preorder, each with
-/// the list of the branches that follow it, for which room is made at once.
+/// Puts trees, and leads the pointer in this slot to the list of their roots. Items are written in
+/// preorder, each with the list of the branches that follow it, for which room is made at once.
 pub fn write_branches(
     alloc: Global,
     forest: &Forest,
@@ -73,7 +76,11 @@ pub fn write_branches(
     requires table { IsTableOf names.now strings.now }
     requires inside { IsInside at builder.old }
     requires slot { slot < at.pointers }
-    ensures { Puts (pointer_word at slot) (structs_laid (branch_sections (branches_map (map (number_for (place_in (table_in names.now strings.now)))) (branches_map (segment_row names.now) (trees_at 0 forest.now))))) builder.old builder.new result }
+    ensures { Puts (pointer_word at slot) (structs_laid
+        (branch_sections (branches_map (map (number_for
+        (place_in (table_in names.now strings.now))))
+        (branches_map (segment_row names.now) (trees_at 0 forest.now))))) builder.old builder.new
+        result }
 {
     let widths = match widths_of(alloc, forest) {
         Ok(widths) => widths,
@@ -130,7 +137,9 @@ fn write_segment(segment: &Segment, names: &Names, strings: &Strings, builder: &
     requires inside { IsInside at builder.old }
     requires segment { IsSegment builder.old }
     requires words { at.words ≡ 3 }
-    ensures made { builder.new ≡ written (8 * at.start) 24 (data_section (map (number_for (place_in (table_in names.now strings.now))) (segment_row names.now segment.now))) builder.old }
+    ensures made { builder.new ≡ written (8 * at.start) 24
+        (data_section (map (number_for (place_in (table_in names.now strings.now)))
+        (segment_row names.now segment.now))) builder.old }
     ensures segment { IsSegment builder.new }
 {
     let third = match segment.kind {

@@ -2,8 +2,11 @@
 
 ghost use Rattle.std.specs.Prelude.{◌≡◌};
 ghost use Rattle.ix_message.specs.Phys.{pin_mapping, cell_placement, site_instance, property};
-ghost use Rattle.ix_phys_write.specs.Record.{pin_mapping_record, placement_record, site_instance_record, property_record, IsMappingNamed, IsPlacementNamed, IsInstanceNamed, IsPropertyNamed};
-ghost use Rattle.ix_phys_write.specs.Wide.{mapping_wide, placement_wide, instance_wide, property_wide};
+ghost use Rattle.ix_phys_write.specs.Record.{pin_mapping_record, placement_record};
+ghost use Rattle.ix_phys_write.specs.Record.{site_instance_record, property_record, IsMappingNamed};
+ghost use Rattle.ix_phys_write.specs.Record.{IsPlacementNamed, IsInstanceNamed, IsPropertyNamed};
+ghost use Rattle.ix_phys_write.specs.Wide.{mapping_wide, placement_wide, instance_wide};
+ghost use Rattle.ix_phys_write.specs.Wide.{property_wide};
 
 use ix_capw::{At, BuildFault, Builder};
 use ix_message::slots;

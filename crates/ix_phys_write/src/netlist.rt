@@ -25,10 +25,13 @@ use std::alloc::Global;
 /// `TooLong` where the message is too long, `Memory`.
 pub fn write_phys(alloc: Global, phys: &Phys, names: &Names) -> Result<Vec<u8>, BuildFault>
     requires { IsPhysNamed names.now phys.now }
-    ensures bytes { IfOk result (λ file. file.items ≡ encoding phys_netlist (phys_record names.now phys.now)) }
-    ensures reads { IfOk result (λ file. reading phys_netlist file.items ≡ Ok (phys_record names.now phys.now)) }
+    ensures bytes { IfOk result (λ file. file.items
+        ≡ encoding phys_netlist (phys_record names.now phys.now)) }
+    ensures reads { IfOk result (λ file. reading phys_netlist file.items
+        ≡ Ok (phys_record names.now phys.now)) }
     ensures fits { OnOk result (is_too_long phys_netlist (phys_record names.now phys.now) ≡ false) }
-    ensures too_long { result ≡ Err BuildFault.TooLong → IsTrue (is_too_long phys_netlist (phys_record names.now phys.now)) }
+    ensures too_long { result ≡ Err BuildFault.TooLong
+        → IsTrue (is_too_long phys_netlist (phys_record names.now phys.now)) }
 {
     // Only texts in UTF-8 read again.
     names_are_utf8(names);

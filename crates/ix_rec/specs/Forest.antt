@@ -16,10 +16,12 @@ module _ {T : Type 0} where
   abbrev pub depths : List (Branch T) → List ℕ
   depths branches = map (λ b. b.depth) branches
 
-  -- the depths are those of a preorder list of trees: the first is 0, and each next one at most one more than the one before
+  -- the depths are those of a preorder list of trees: the first is 0, and each next one at most one
+  -- more than the one before
   abbrev pub IsPreorder : List (Branch T) → Type 0
   IsPreorder branches = StepsWithin 0 (depths branches)
 
-  -- the greatest depth that the next item may have: 0 where there is none yet, else one more than the last one's
+  -- the greatest depth that the next item may have: 0 where there is none yet, else one more than
+  -- the last one's
   abbrev pub next_limit : List (Branch T) → ℕ
   next_limit branches = limit_after 0 (depths branches)

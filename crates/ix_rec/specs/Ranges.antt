@@ -25,7 +25,8 @@ InversionFits pins (Inverting a b) = (a < pins) × (b < pins)
 pub record SiteTypeFits (t : SiteType) : Type 0 where
   pub pins : AllByRecursion (λ p. p.belpin < length t.bel_pins) t.pins
   pub bels : AllByRecursion (λ b. InversionFits (length t.bel_pins) b.inversion) t.bels
-  pub pips : AllByRecursion (λ p. (p.inpin < length t.bel_pins) × (p.outpin < length t.bel_pins)) t.site_pips
+  pub pips : AllByRecursion (λ p. (p.inpin < length t.bel_pins)
+      × (p.outpin < length t.bel_pins)) t.site_pips
   pub wires : AllByRecursion (λ w. AllByRecursion (λ p. p < length t.bel_pins) w.pins) t.site_wires
 
 -- a tile type's indexes lead into its own wires and the device's site types
@@ -43,5 +44,6 @@ SitesFit (Some ty) sites = AllByRecursion (λ s. s.ty < length ty.site_types) si
 pub record IndexesFit (rec : DeviceRec) : Type 0 where
   pub site_types : AllByRecursion SiteTypeFits rec.site_type_list
   pub tile_types : AllByRecursion (TileTypeFits (length rec.site_type_list)) rec.tile_type_list
-  pub tiles : AllByRecursion (λ t. SitesFit (slice_get rec.tile_type_list t.ty) t.sites) rec.tile_list
+  pub tiles : AllByRecursion (λ t. SitesFit (slice_get rec.tile_type_list t.ty) t.sites)
+      rec.tile_list
   pub nodes : AllByRecursion (λ n. AllByRecursion (λ w. w < length rec.wires) n.wires) rec.nodes

@@ -1,5 +1,5 @@
-//! The record of a device resources message. Names are numbers of the run's table of names. Tiles, site types,
-//! BELs and pins are numbered as their messages list them.
+//! The record of a device resources message. Names are numbers of the run's table of names. Tiles,
+//! site types, BELs and pins are numbered as their messages list them.
 
 use crate::items::Items;
 use ix_num::{BelPinId, NameId, SiteTypeId};
@@ -158,7 +158,8 @@ pub struct SiteTypeInTileType {
     pub primary_pins_to_tile_wires: Items<NameId>,
 }
 
-/// A programmable connection between two wires of a tile. Both are places in the tile type's list of wires.
+/// A programmable connection between two wires of a tile. Both are places in the tile type's list
+/// of wires.
 #[derive(Drop)]
 pub struct Pip {
     /// The wire at which a signal enters.

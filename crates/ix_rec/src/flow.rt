@@ -54,8 +54,8 @@ pub struct CellPin {
 /// The function of a LUT cell.
 #[derive(Clone, Copy)]
 pub struct TruthTable {
-    /// Bit `n` is the output where the inputs, input 0 least significant, spell `n`. There are `2^inputs` bits,
-    /// and those above are 0.
+    /// Bit `n` is the output where the inputs, input 0 least significant, spell `n`. There are
+    /// `2^inputs` bits, and those above are 0.
     pub bits: u64,
     /// How many inputs there are, 1 to 6.
     pub inputs: u32,

@@ -1,6 +1,7 @@
 //! Trees, as a preorder list of depths and items.
 
-ghost use Rattle.std.specs.Prelude.{◌≡◌, ◌<◌, ◌≤◌, ◌↔◌, [], ◌∷◌, ◌++◌, Some, length, slice_get, take, IsTrue, OnErr, OnOk};
+ghost use Rattle.std.specs.Prelude.{◌≡◌, ◌<◌, ◌≤◌, ◌↔◌, [], ◌∷◌, ◌++◌, Some, length, slice_get};
+ghost use Rattle.std.specs.Prelude.{take, IsTrue, OnErr, OnOk};
 ghost use Rattle.ix_rec.specs.Forest.{IsPreorder, next_limit};
 
 use crate::phys::Segment;
@@ -17,8 +18,8 @@ pub struct Branch<T> {
     pub item: T,
 }
 
-/// Trees, one after another, each item before those below it. The first depth is 0, and each next one is at most
-/// one more than the one before: there is no list that isn't so.
+/// Trees, one after another, each item before those below it. The first depth is 0, and each next
+/// one is at most one more than the one before: there is no list that isn't so.
 #[derive(Drop)]
 pub struct Forest<T = Segment> {
     branches: Vec<Branch<T>>,
@@ -72,8 +73,8 @@ impl<T> Forest<T> {
         self.branches.as_slice()
     }
 
-    /// Whether an item of this depth may come next: at most one more than the last one's, and 0 where there is
-    /// none yet.
+    /// Whether an item of this depth may come next: at most one more than the last one's, and 0
+    /// where there is none yet.
     pub fn takes(&self, depth: u32) -> bool
         ensures { IsTrue result ↔ (depth ≤ next_limit self.now) }
     {
@@ -85,11 +86,12 @@ impl<T> Forest<T> {
 }
 
 impl<T: Drop> Forest<T> {
-    /// Puts an item of this depth at the end. The forest grows, and after `Memory` it is as before; the item is
-    /// given up.
+    /// Puts an item of this depth at the end. The forest grows, and after `Memory` it is as before;
+    /// the item is given up.
     pub fn push(&mut self, depth: u32, item: T) -> Result<(), Memory>
         requires { depth ≤ next_limit self.old }
-        ensures ok { OnOk result (self.new ≡ self.old ++ record { depth = depth; item = item } ∷ []) }
+        ensures ok { OnOk result (self.new ≡ self.old ++ record { depth = depth; item = item }
+            ∷ []) }
         ensures err { OnErr result (self.new ≡ self.old) }
         ensures preorder { IsPreorder self.new }
     {

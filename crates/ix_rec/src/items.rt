@@ -1,6 +1,7 @@
 //! Lists of records.
 
-ghost use Rattle.std.specs.Prelude.{◌≡◌, ◌<◌, [], ◌∷◌, ◌++◌, Some, length, slice_get, IfOk, OnErr, OnOk};
+ghost use Rattle.std.specs.Prelude.{◌≡◌, ◌<◌, [], ◌∷◌, ◌++◌, Some, length, slice_get, IfOk, OnErr};
+ghost use Rattle.std.specs.Prelude.{OnOk};
 
 use ix_num::Memory;
 use std::alloc::Global;
@@ -33,8 +34,8 @@ impl<T> Items<T> {
         }
     }
 
-    /// A list without items, with room for as many as `count`: pushing so many takes no more memory than
-    /// they need.
+    /// A list without items, with room for as many as `count`: pushing so many takes no more memory
+    /// than they need.
     pub fn with_capacity(alloc: Global, count: usize) -> Result<Items<T>, Memory>
         ensures { IfOk result (λ items. items ≡ []) }
     {
@@ -80,7 +81,8 @@ impl<T> Items<T> {
 }
 
 impl<T: Drop> Items<T> {
-    /// Puts an item at the end. The list grows, and after `Memory` it is as before; the item is given up.
+    /// Puts an item at the end. The list grows, and after `Memory` it is as before; the item is
+    /// given up.
     pub fn push(&mut self, item: T) -> Result<(), Memory>
         ensures ok { OnOk result (self.new ≡ self.old ++ item ∷ []) }
         ensures err { OnErr result (self.new ≡ self.old) }

@@ -1,6 +1,7 @@
 //! The maps of a flat design, which contracts see as finite maps.
 
-ghost use Rattle.std.specs.Prelude.{◌≡◌, ◌≢◌, ◌^◌, ◌<◌, Some, ℕ, OnErr, OnOk, filter, length, nat_le};
+ghost use Rattle.std.specs.Prelude.{◌≡◌, ◌≢◌, ◌^◌, ◌<◌, Some, ℕ, OnErr, OnOk, filter, length};
+ghost use Rattle.std.specs.Prelude.{nat_le};
 ghost use Rattle.std.specs.FinMap as map;
 
 use ix_num::{CellId, Memory, NameId};
@@ -64,8 +65,8 @@ impl<V: Copy> CellMap<V> {
         self.values.get(&cell).copied()
     }
 
-    /// Gives the cell this value, in place of the one that it has. The map grows, and after `Memory` it is as
-    /// before.
+    /// Gives the cell this value, in place of the one that it has. The map grows, and after
+    /// `Memory` it is as before.
     pub fn insert(&mut self, cell: CellId, value: V) -> Result<(), Memory>
         ensures ok { OnOk result (self.new ≡ map.insert self.old cell value) }
         ensures value { OnOk result (map.get self.new cell ≡ Some value) }
@@ -115,7 +116,8 @@ impl<V> PinMap<V> {
         self.values.len()
     }
 
-    /// The pins that have a value, by cell and at one cell by the number of their name, each with it.
+    /// The pins that have a value, by cell and at one cell by the number of their name, each with
+    /// it.
     pub fn iter(&self) -> Iter<'_, (CellId, NameId), V>
         ensures entries { result ≡ map.entries self.now }
         ensures fits { length result < 2 ^ 63 }
@@ -140,8 +142,8 @@ impl<V: Copy> PinMap<V> {
         self.values.get(&(cell, pin)).copied()
     }
 
-    /// Gives the pin this value, in place of the one that it has. The map grows, and after `Memory` it is as
-    /// before.
+    /// Gives the pin this value, in place of the one that it has. The map grows, and after `Memory`
+    /// it is as before.
     pub fn insert(&mut self, cell: CellId, pin: NameId, value: V) -> Result<(), Memory>
         ensures ok { OnOk result (self.new ≡ map.insert self.old (cell, pin) value) }
         ensures value { OnOk result (map.get self.new (cell, pin) ≡ Some value) }

@@ -70,8 +70,8 @@ pub struct PortInstance {
     pub port: u32,
     /// Whether the port is a bit, or `idx` picks one of a bus.
     pub bus: PortIndexing,
-    /// The place in the bus, from 0, which is the bit that the port's `bus_start` names. At a single bit it
-    /// isn't looked at.
+    /// The place in the bus, from 0, which is the bit that the port's `bus_start` names. At a
+    /// single bit it isn't looked at.
     pub idx: u32,
     /// Whose port it is.
     pub owner: PortOwner,

@@ -75,14 +75,15 @@ pub enum NetType {
 pub struct Segment {
     /// What kind of piece it is, which says what the three names are.
     pub kind: BranchKind,
-    /// Whether a PIP is used from `wire0` to `wire1`. At another kind it is kept, and no rule asks it.
+    /// Whether a PIP is used from `wire0` to `wire1`. At another kind it is kept, and no rule asks
+    /// it.
     pub forward: bool,
     /// The name of the site, or at a PIP of the tile.
     pub first: NameId,
     /// The name of the BEL, at a site pin of the pin, at a PIP of `wire0`.
     pub second: NameId,
-    /// The name of the BEL pin, at a PIP of `wire1`, at a site PIP of its input pin. At a site pin it isn't
-    /// looked at.
+    /// The name of the BEL pin, at a PIP of `wire1`, at a site PIP of its input pin. At a site pin
+    /// it isn't looked at.
     pub third: NameId,
 }
 

@@ -2,8 +2,9 @@
 
 use crate::text::Word;
 
-/// A rule of the program. The letters: F frames, I indexes, M devices, N designs, P package pins and packed
-/// files, L legality of a physical netlist, E agreement of a physical netlist with its design.
+/// A rule of the program. The letters: F frames, I indexes, M devices, N designs, P package pins
+/// and packed files, L legality of a physical netlist, E agreement of a physical netlist with its
+/// design.
 #[derive(Clone, Copy, Debug, PartialEq, Eq)]
 pub enum Rule {
     /// Fewer than 4 bytes, a segment table that is cut, or a length that isn't the table's.
@@ -24,7 +25,8 @@ pub enum Rule {
     F8,
     /// A file longer than 2^30 bytes.
     F9,
-    /// An index, enumerant or tag out of its list, or a port, instance or bus index that isn't there.
+    /// An index, enumerant or tag out of its list, or a port, instance or bus index that isn't
+    /// there.
     I1,
     /// Two things of a device of one name.
     M1,

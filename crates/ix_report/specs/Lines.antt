@@ -2,7 +2,11 @@
 use Rattle.std.specs.Prelude.{ℕ, Bool, true, false, List, [], ◌∷◌, ◌++◌, codes}
 use Rattle.std.specs.Fmt.{decimal}
 use Rattle.ix_rec.specs.declared.place.Rule.{Rule}
-use Rattle.ix_rec.specs.declared.place.Rule.TheVariants.{F1, F2, F3, F4, F5, F6, F7, F8, F9, I1, M1, M2, M3, M4, M5, M6, M7, N1, N2, N3, N4, N5, N6, N7, N8, N9, N10, P1, P2, P3, P4, P5, L1, L2, L3, L4, L5, L6, L7, L8, L9, L10, E1, E2, E3}
+use Rattle.ix_rec.specs.declared.place.Rule.TheVariants.{F1, F2, F3, F4, F5, F6, F7, F8, F9, I1, M1}
+use Rattle.ix_rec.specs.declared.place.Rule.TheVariants.{M2, M3, M4, M5, M6, M7, N1, N2, N3, N4, N5}
+use Rattle.ix_rec.specs.declared.place.Rule.TheVariants.{N6, N7, N8, N9, N10, P1, P2, P3, P4, P5}
+use Rattle.ix_rec.specs.declared.place.Rule.TheVariants.{L1, L2, L3, L4, L5, L6, L7, L8, L9, L10}
+use Rattle.ix_rec.specs.declared.place.Rule.TheVariants.{E1, E2, E3}
 use Rattle.ix_rec.specs.declared.place.File as files
 use Rattle.ix_rec.specs.declared.place.File.TheVariants as the_file
 use Rattle.ix_rec.specs.declared.place.Place as places
@@ -65,29 +69,36 @@ file_word the_file.Phys = codes "phys"
 
 abbrev pub place_text : places.Place → List ℕ
 place_text the_place.File = codes "file"
-place_text (the_place.At segment word) = codes "word " ++ decimal segment ++ codes ":" ++ decimal word
-place_text (the_place.Item kind field index) = kind ++ codes "." ++ field ++ codes " " ++ decimal index
+place_text (the_place.At segment word) = codes "word " ++ decimal segment ++ codes ":"
+    ++ decimal word
+place_text (the_place.Item kind field index)
+    = kind ++ codes "." ++ field ++ codes " " ++ decimal index
 place_text (the_place.Named name) = name
 place_text (the_place.Cell name) = codes "cell " ++ name
 place_text (the_place.Pin cell pin) = codes "pin " ++ cell ++ codes "/" ++ pin
 place_text (the_place.Segment net index) = codes "net " ++ net ++ codes " #" ++ decimal index
-place_text (the_place.Element site element) = codes "element " ++ site ++ codes " " ++ decimal element
+place_text (the_place.Element site element)
+    = codes "element " ++ site ++ codes " " ++ decimal element
 place_text (the_place.Site name) = codes "site " ++ name
 place_text (the_place.Key key) = codes "key " ++ key
 
 abbrev pub packed_text : (cells clusters : ℕ) → List ℕ
-packed_text cells clusters = codes "packed " ++ decimal cells ++ codes " cells in " ++ decimal clusters ++ codes " clusters"
+packed_text cells clusters = codes "packed " ++ decimal cells ++ codes " cells in "
+    ++ decimal clusters ++ codes " clusters"
 
 abbrev pub placed_text : (clusters length : ℕ) → List ℕ
-placed_text clusters length = codes "placed " ++ decimal clusters ++ codes " clusters, length " ++ decimal length
+placed_text clusters length = codes "placed " ++ decimal clusters ++ codes " clusters, length "
+    ++ decimal length
 
 abbrev pub routed_text : (nets pips rounds : ℕ) → List ℕ
-routed_text nets pips rounds = codes "routed " ++ decimal nets ++ codes " nets, " ++ decimal pips ++ codes " pips, rounds " ++ decimal rounds
+routed_text nets pips rounds = codes "routed " ++ decimal nets ++ codes " nets, " ++ decimal pips
+    ++ codes " pips, rounds " ++ decimal rounds
 
 -- how large the design is
 abbrev pub counts_text : (cells clusters nets pips : ℕ) → List ℕ
 counts_text cells clusters nets pips =
-    codes "done: " ++ decimal cells ++ codes " cells, " ++ decimal clusters ++ codes " clusters, " ++ decimal nets
+    codes "done: " ++ decimal cells ++ codes " cells, " ++ decimal clusters ++ codes " clusters, "
+    ++ decimal nets
     ++ codes " nets, " ++ decimal pips ++ codes " pips"
 
 -- how much work it took
@@ -100,7 +111,8 @@ yes_text false = codes "yes"
 
 abbrev pub demo_text : (number luts flip_flops ports : ℕ) → List ℕ
 demo_text number luts flip_flops ports =
-    codes "demo " ++ decimal number ++ codes ": " ++ decimal luts ++ codes " luts, " ++ decimal flip_flops ++ codes " flip-flops, "
+    codes "demo " ++ decimal number ++ codes ": " ++ decimal luts ++ codes " luts, "
+    ++ decimal flip_flops ++ codes " flip-flops, "
     ++ decimal ports ++ codes " ports"
 
 abbrev pub broken_text : Rule → places.Place → List ℕ
@@ -115,17 +127,20 @@ few_bels_text kind cells bels = codes "too few bels: " ++ kind ++ needs_text cel
 
 -- how much work was done in vain
 abbrev pub in_vain_text : (rounds trial : ℕ) → List ℕ
-in_vain_text rounds trial = codes " after " ++ decimal rounds ++ codes " rounds, trial " ++ decimal trial
+in_vain_text rounds trial = codes " after " ++ decimal rounds ++ codes " rounds, trial "
+    ++ decimal trial
 
 abbrev pub shared_text : (node a b : List ℕ) (rounds trial : ℕ) → List ℕ
-shared_text node a b rounds trial = codes "shared: " ++ node ++ codes " by " ++ a ++ codes " and " ++ b ++ in_vain_text rounds trial
+shared_text node a b rounds trial = codes "shared: " ++ node ++ codes " by " ++ a ++ codes " and "
+    ++ b ++ in_vain_text rounds trial
 
 -- the line of a report, without its end
 abbrev pub text_of : reports.Report → List ℕ
 text_of (the_report.Packed cells clusters) = packed_text cells clusters
 text_of (the_report.Placed clusters length) = placed_text clusters length
 text_of (the_report.Routed nets pips rounds) = routed_text nets pips rounds
-text_of (the_report.Implemented cells clusters nets pips trial rounds) = counts_text cells clusters nets pips ++ effort_text trial rounds
+text_of (the_report.Implemented cells clusters nets pips trial rounds)
+    = counts_text cells clusters nets pips ++ effort_text trial rounds
 text_of (the_report.Yes derived) = yes_text derived
 text_of (the_report.No rule place) = codes "no" ++ codes ": " ++ broken_text rule place
 text_of (the_report.Demo number luts flip_flops ports) = demo_text number luts flip_flops ports

@@ -1,7 +1,10 @@
 //! The line of a report.
 
 ghost use Rattle.std.specs.Prelude.{◌≡◌, ◌++◌, IfOk, OnOk, string_bytes, codes};
-ghost use Rattle.ix_report.specs.Lines.{packed_text, placed_text, routed_text, counts_text, effort_text, yes_text, demo_text, broken_text, in_vain_text, shared_text, few_bels_text, needs_text, file_word, place_text, text_of, line_of};
+ghost use Rattle.ix_report.specs.Lines.{packed_text, placed_text, routed_text, counts_text};
+ghost use Rattle.ix_report.specs.Lines.{effort_text, yes_text, demo_text, broken_text};
+ghost use Rattle.ix_report.specs.Lines.{in_vain_text, shared_text, few_bels_text, needs_text};
+ghost use Rattle.ix_report.specs.Lines.{file_word, place_text, text_of, line_of};
 
 use crate::report::Report;
 use crate::words::{rule_word, word_of_file};
@@ -60,7 +63,8 @@ fn push_place(text: &mut String, place: &Place) -> Result<(), AllocError>
 }
 
 fn push_broken(text: &mut String, rule: Rule, place: &Place) -> Result<(), AllocError>
-    ensures { OnOk result (string_bytes text.new ≡ string_bytes text.old ++ broken_text rule place.now) }
+    ensures { OnOk result (string_bytes text.new
+        ≡ string_bytes text.old ++ broken_text rule place.now) }
 {
     text.push_str(rule_word(rule))?;
     text.push_str(" at ")?;
@@ -68,33 +72,38 @@ fn push_broken(text: &mut String, rule: Rule, place: &Place) -> Result<(), Alloc
 }
 
 fn push_two(text: &mut String, first: &str, second: &str) -> Result<(), AllocError>
-    ensures { OnOk result (string_bytes text.new ≡ string_bytes text.old ++ (first.now ++ second.now)) }
+    ensures { OnOk result (string_bytes text.new
+        ≡ string_bytes text.old ++ (first.now ++ second.now)) }
 {
     text.push_str(first)?;
     text.push_str(second)
 }
 
 fn push_bad(text: &mut String, file: &str, rule: Rule, place: &Place) -> Result<(), AllocError>
-    ensures { OnOk result (string_bytes text.new ≡ string_bytes text.old ++ (file.now ++ (codes ": " ++ broken_text rule place.now))) }
+    ensures { OnOk result (string_bytes text.new
+        ≡ string_bytes text.old ++ (file.now ++ (codes ": " ++ broken_text rule place.now))) }
 {
     push_two(text, file, ": ")?;
     push_broken(text, rule, place)
 }
 
 fn push_packed(text: &mut String, cells: u32, clusters: u32) -> Result<(), AllocError>
-    ensures { OnOk result (string_bytes text.new ≡ string_bytes text.old ++ packed_text cells clusters) }
+    ensures { OnOk result (string_bytes text.new
+        ≡ string_bytes text.old ++ packed_text cells clusters) }
 {
     write!(text, "packed {cells} cells in {clusters} clusters")
 }
 
 fn push_placed(text: &mut String, clusters: u32, length: u64) -> Result<(), AllocError>
-    ensures { OnOk result (string_bytes text.new ≡ string_bytes text.old ++ placed_text clusters length) }
+    ensures { OnOk result (string_bytes text.new
+        ≡ string_bytes text.old ++ placed_text clusters length) }
 {
     write!(text, "placed {clusters} clusters, length {length}")
 }
 
 fn push_routed(text: &mut String, nets: u32, pips: u64, rounds: u32) -> Result<(), AllocError>
-    ensures { OnOk result (string_bytes text.new ≡ string_bytes text.old ++ routed_text nets pips rounds) }
+    ensures { OnOk result (string_bytes text.new
+        ≡ string_bytes text.old ++ routed_text nets pips rounds) }
 {
     write!(text, "routed {nets} nets, {pips} pips, rounds {rounds}")
 }
@@ -116,7 +125,8 @@ fn push_demo(
     flip_flops: u32,
     ports: u32,
 ) -> Result<(), AllocError>
-    ensures { OnOk result (string_bytes text.new ≡ string_bytes text.old ++ demo_text number luts flip_flops ports) }
+    ensures { OnOk result (string_bytes text.new
+        ≡ string_bytes text.old ++ demo_text number luts flip_flops ports) }
 {
     write!(
         text,
@@ -125,7 +135,8 @@ fn push_demo(
 }
 
 fn push_in_vain(text: &mut String, rounds: u32, trial: u32) -> Result<(), AllocError>
-    ensures { OnOk result (string_bytes text.new ≡ string_bytes text.old ++ in_vain_text rounds trial) }
+    ensures { OnOk result (string_bytes text.new
+        ≡ string_bytes text.old ++ in_vain_text rounds trial) }
 {
     write!(text, " after {rounds} rounds, trial {trial}")
 }
@@ -138,7 +149,8 @@ fn push_shared(
     rounds: u32,
     trial: u32,
 ) -> Result<(), AllocError>
-    ensures { OnOk result (string_bytes text.new ≡ string_bytes text.old ++ shared_text node.now a.now b.now rounds trial) }
+    ensures { OnOk result (string_bytes text.new
+        ≡ string_bytes text.old ++ shared_text node.now a.now b.now rounds trial) }
 {
     push_two(text, "shared: ", node)?;
     push_two(text, " by ", a)?;
@@ -147,7 +159,9 @@ fn push_shared(
 }
 
 fn push_unreachable(text: &mut String, net: &str, node: &str) -> Result<(), AllocError>
-    ensures { OnOk result (string_bytes text.new ≡ string_bytes text.old ++ (codes "unreachable: " ++ (net.now ++ (codes " at " ++ node.now)))) }
+    ensures { OnOk result (string_bytes text.new
+        ≡ string_bytes text.old ++ (codes "unreachable: "
+        ++ (net.now ++ (codes " at " ++ node.now)))) }
 {
     push_two(text, "unreachable: ", net)?;
     push_two(text, " at ", node)
@@ -160,7 +174,8 @@ fn push_counts(
     nets: u32,
     pips: u64,
 ) -> Result<(), AllocError>
-    ensures { OnOk result (string_bytes text.new ≡ string_bytes text.old ++ counts_text cells clusters nets pips) }
+    ensures { OnOk result (string_bytes text.new
+        ≡ string_bytes text.old ++ counts_text cells clusters nets pips) }
 {
     write!(
         text,
@@ -169,7 +184,8 @@ fn push_counts(
 }
 
 fn push_effort(text: &mut String, trial: u32, rounds: u32) -> Result<(), AllocError>
-    ensures { OnOk result (string_bytes text.new ≡ string_bytes text.old ++ effort_text trial rounds) }
+    ensures { OnOk result (string_bytes text.new
+        ≡ string_bytes text.old ++ effort_text trial rounds) }
 {
     write!(text, ", trial {trial}, rounds {rounds}")
 }
@@ -181,7 +197,8 @@ fn push_needs(text: &mut String, cells: u64, bels: u64) -> Result<(), AllocError
 }
 
 fn push_few_bels(text: &mut String, kind: &str, cells: u64, bels: u64) -> Result<(), AllocError>
-    ensures { OnOk result (string_bytes text.new ≡ string_bytes text.old ++ few_bels_text kind.now cells bels) }
+    ensures { OnOk result (string_bytes text.new
+        ≡ string_bytes text.old ++ few_bels_text kind.now cells bels) }
 {
     push_two(text, "too few bels: ", kind)?;
     push_needs(text, cells, bels)?;

@@ -2,7 +2,8 @@
 use Rattle.std.specs.Prelude.{◌≡◌, ℕ, ◌+◌, ◌-◌, ◌^◌, ◌<◌, ◌≤◌, List, length, take, slice_index}
 use Rattle.std.specs.List.{sum}
 
--- the rows start one after another, and the last ends with the last of the places, whose numbers have 32 bits
+-- the rows start one after another, and the last ends with the last of the places, whose numbers
+-- have 32 bits
 pub record AreStarts (starts : List ℕ) (places : ℕ) : Type 0 where
   pub some : 0 < length starts
   pub rise : (i j : ℕ) → i ≤ j → j < length starts → slice_index starts i ≤ slice_index starts j

@@ -1,2 +1,4 @@
-pub mod Layout
+-- What public contracts say.
 pub mod Rows
+-- For private contracts and proofs.
+pub mod Layout

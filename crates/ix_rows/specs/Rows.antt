@@ -27,7 +27,8 @@ room_in filler row = slice_index filler.starts.items (row + 1) - slice_index fil
 -- the items that were put into a row, in the order in which they were
 unfoldable pub row_in : {T : Type 0} → RowFiller T → ℕ → List T
 row_in filler row =
-    slice_range filler.items.items (slice_index filler.starts.items row) (slice_index filler.ends.items row)
+    slice_range filler.items.items (slice_index filler.starts.items row)
+    (slice_index filler.ends.items row)
 
 -- how many rows there are
 unfoldable pub rows : {T : Type 0} → Rows T → ℕ
@@ -36,4 +37,5 @@ rows table = length table.starts.items - 1
 -- the items of a row
 unfoldable pub row_of : {T : Type 0} → Rows T → ℕ → List T
 row_of table row =
-    slice_range table.items.items (slice_index table.starts.items row) (slice_index table.starts.items (row + 1))
+    slice_range table.items.items (slice_index table.starts.items row)
+    (slice_index table.starts.items (row + 1))

@@ -9,7 +9,8 @@ use crate::starts::starts_for;
 use ix_num::Memory;
 use std::alloc::Global;
 
-/// Rows that are being filled, each to the size that it is to have. They take 8 bytes a row and the items.
+/// Rows that are being filled, each to the size that it is to have. They take 8 bytes a row and the
+/// items.
 #[derive(Drop)]
 pub struct RowFiller<T> {
     // The place at which each row starts, and behind them the number of items.
@@ -23,10 +24,11 @@ pub struct RowFiller<T> {
 
 impl<T: Copy> RowFiller<T> {
     ghost use Rattle.std.specs.Prelude.{◌≡◌, ℕ, ◌<◌, [], ◌∷◌, ◌++◌, nat_eq, IfOk, if◌then◌else◌};
-    ghost use Rattle.ix_rows.specs.Rows.{row_count, size_of, filler_rows, room_in, row_in, rows, row_of};
+    ghost use Rattle.ix_rows.specs.Rows.{row_count, size_of, filler_rows, room_in, row_in, rows};
+    ghost use Rattle.ix_rows.specs.Rows.{row_of};
 
-    /// Empty rows with room for these sizes. The blank stands where no item was put yet. `Memory` is the only error; it
-    /// takes the sizes with it.
+    /// Empty rows with room for these sizes. The blank stands where no item was put yet. `Memory`
+    /// is the only error; it takes the sizes with it.
     #[tactic(auto, unfolding(crate::specs::Rows::row_count, crate::specs::Rows::size_of, crate::specs::Rows::filler_rows, crate::specs::Rows::room_in, crate::specs::Rows::row_in))]
     pub fn new(alloc: Global, sizes: RowSizes, blank: T) -> Result<RowFiller<T>, Memory>
         ensures rows { IfOk result (λ filler. filler_rows filler ≡ row_count sizes) }
@@ -35,7 +37,8 @@ impl<T: Copy> RowFiller<T> {
     {
         let RowSizes { sizes, total } = sizes;
         let starts = starts_for(alloc, &sizes)?;
-        // Nothing was put yet, so each row ends where it starts. The ends take the memory of the sizes.
+        // Nothing was put yet, so each row ends where it starts. The ends take the memory of the
+        // sizes.
         let mut ends = sizes;
         let rows = ends.len();
         ends.copy_from_slice(&starts[..rows]);
@@ -53,7 +56,8 @@ impl<T: Copy> RowFiller<T> {
     pub fn put(&mut self, row: usize, item: T)
         requires row { row < filler_rows self.now }
         requires room { length (row_in self.now row) < room_in self.now row }
-        ensures items { (r : ℕ) → row_in self.new r ≡ row_in self.old r ++ (if nat_eq row r then item ∷ [] else []) }
+        ensures items { (r : ℕ) → row_in self.new r
+            ≡ row_in self.old r ++ (if nat_eq row r then item ∷ [] else []) }
         ensures room { (r : ℕ) → room_in self.new r ≡ room_in self.old r }
         ensures rows { filler_rows self.new ≡ filler_rows self.old }
     {

@@ -1,5 +1,5 @@
-//! Rows of items in compressed form, filled in two passes: first the size of each row is counted, then each item is put
-//! into its row.
+//! Rows of items in compressed form, filled in two passes: first the size of each row is counted,
+//! then each item is put into its row.
 #![tactic(auto)]
 
 mod filler;

@@ -35,7 +35,8 @@ impl RowSizes {
     pub fn add(&mut self, row: usize)
         requires row { row < row_count self.now }
         requires few { total_size self.now < 2 ^ 32 - 1 }
-        ensures sizes { (r : ℕ) → size_of self.new r ≡ size_of self.old r + (if nat_eq row r then 1 else 0) }
+        ensures sizes { (r : ℕ) → size_of self.new r
+            ≡ size_of self.old r + (if nat_eq row r then 1 else 0) }
         ensures total { total_size self.new ≡ total_size self.old + 1 }
         ensures rows { row_count self.new ≡ row_count self.old }
     {

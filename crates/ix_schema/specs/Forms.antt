@@ -1,13 +1,18 @@
 -- What the code's table of a message says of the message's structs.
-use Rattle.std.specs.Prelude.{◌≡◌, ℕ, ◌+◌, ◌<◌, List, [], ◌∷◌, length, Bool, true, false, ◌&&◌, nat_lt, Option, Some, None, Ok, if◌then◌else◌, slice_get}
+use Rattle.std.specs.Prelude.{◌≡◌, ℕ, ◌+◌, ◌<◌, List, [], ◌∷◌, length, Bool, true, false, ◌&&◌}
+use Rattle.std.specs.Prelude.{nat_lt, Option, Some, None, Ok, if◌then◌else◌, slice_get}
 use Rattle.std.specs.List.{list_all}
 use Rattle.ix_frame.specs.Result.{◌>>=◌}
 use Rattle.ix_frame.specs.Objects.{text_at, struct_at, elements_at, list_at, has_pointer}
 use Rattle.ix_frame.specs.Target.{Object}
-use Rattle.ix_message.specs.Shape.{Struct, Pointers, struct_of, no_more, text, texts, numbers, struct, struct_or_none, boxed, structs, branches, string_table, unread}
+use Rattle.ix_message.specs.Shape.{Struct, Pointers, struct_of, no_more, text, texts, numbers}
+use Rattle.ix_message.specs.Shape.{struct, struct_or_none, boxed, structs, branches, string_table}
+use Rattle.ix_message.specs.Shape.{unread}
 use Rattle.ix_schema.specs.declared.form.StructForm.{StructForm}
 use Rattle.ix_schema.specs.declared.form.Behind.{Behind}
-use Rattle.ix_schema.specs.declared.form.Behind.TheVariants.{Text, Texts, Numbers, Struct as OneStruct, StructOrNone, Boxed, Structs, Branches, Unread}
+use Rattle.ix_schema.specs.declared.form.Behind.TheVariants.{Text, Texts, Numbers}
+use Rattle.ix_schema.specs.declared.form.Behind.TheVariants.{Struct as OneStruct, StructOrNone}
+use Rattle.ix_schema.specs.declared.form.Behind.TheVariants.{Boxed, Structs, Branches, Unread}
 use Rattle.ix_schema.specs.Passed.{Left, each_left, texts_passed, branches_left}
 
 abbrev pub pointers_in : Option StructForm → List Behind
@@ -48,10 +53,12 @@ IsLower n (Boxed m) = m < n
 IsLower n (Structs m) = m < n
 IsLower n _ = Unit {0}
 
--- a struct has no more than 65,535 pointers, and what is behind them has lower numbers than the struct
+-- a struct has no more than 65,535 pointers, and what is behind them has lower numbers than the
+-- struct
 abbrev pub are_ordered : ℕ → List StructForm → Bool
 are_ordered n [] = true
-are_ordered n (f ∷ fs) = nat_lt (length f.pointers.now) 65536 && (list_all (is_lower n) f.pointers.now && are_ordered (n + 1) fs)
+are_ordered n (f ∷ fs) = nat_lt (length f.pointers.now) 65536
+    && (list_all (is_lower n) f.pointers.now && are_ordered (n + 1) fs)
 
 -- the pointers of the struct with this number are as they should be
 pub record Ordered (n : ℕ) (fs : List Behind) : Type 0 where
@@ -71,13 +78,17 @@ unfoldable pub pointer_left : Behind → (Object → ℕ → Left) → ℕ → O
 pointer_left Text pass slot o budget = text_at o slot budget >>= λ here. Ok here.1
 pointer_left Texts pass slot o budget = texts_passed o slot budget
 pointer_left Numbers pass slot o budget = list_at 4 o slot budget >>= λ l. Ok l.1
-pointer_left (OneStruct m) pass slot o budget = struct_at o slot budget >>= λ inner. pass inner.0 inner.1
+pointer_left (OneStruct m) pass slot o budget = struct_at o slot budget
+    >>= λ inner. pass inner.0 inner.1
 pointer_left (StructOrNone m) pass slot o budget =
-    if has_pointer o slot then (struct_at o slot budget >>= λ inner. pass inner.0 inner.1) else Ok budget
+    if has_pointer o slot then (struct_at o slot budget >>= λ inner. pass inner.0 inner.1)
+    else Ok budget
 pointer_left (Boxed m) pass slot o budget = do
   box ← struct_at o slot budget
   l ← elements_at box.0 0 box.1
   each_left pass l.0.count l.0 0 l.1
-pointer_left (Structs m) pass slot o budget = elements_at o slot budget >>= λ l. each_left pass l.0.count l.0 0 l.1
-pointer_left Branches pass slot o budget = elements_at o slot budget >>= λ l. branches_left (budget + 1) l.0.count l.0 0 l.1
+pointer_left (Structs m) pass slot o budget = elements_at o slot budget
+    >>= λ l. each_left pass l.0.count l.0 0 l.1
+pointer_left Branches pass slot o budget = elements_at o slot budget
+    >>= λ l. branches_left (budget + 1) l.0.count l.0 0 l.1
 pointer_left Unread pass slot o budget = Ok budget

@@ -1,7 +1,9 @@
 -- What the code's table of a message says of names: those of its structs and of their fields.
 use Prim.Native.String.{String}
 use Rattle.std.specs.Prelude.{ℕ, List, [], ◌∷◌, Bool, true, false, ◌&&◌, codes, map, slice_index_or}
-use Rattle.ix_message.specs.Shape.{Text, Field, Struct, Pointers, struct_of, no_more, text, texts, numbers, struct, struct_or_none, boxed, structs, branches, string_table, unread}
+use Rattle.ix_message.specs.Shape.{Text, Field, Struct, Pointers, struct_of, no_more, text, texts}
+use Rattle.ix_message.specs.Shape.{numbers, struct, struct_or_none, boxed, structs, branches}
+use Rattle.ix_message.specs.Shape.{string_table, unread}
 use Rattle.ix_message.specs.Names.{same_text}
 use Rattle.ix_schema.specs.declared.form.StructForm.{StructForm}
 
@@ -38,7 +40,8 @@ names_of (struct_of called fields ps) = field_names fields ps
 abbrev pub are_named : List StructForm → List Struct → Bool
 are_named [] [] = true
 are_named (f ∷ fs) (s ∷ ss) =
-    (same_text f.name.now (codes (called_of s)) && same_texts (map (λ t. t.now) f.fields.now) (names_of s)) && are_named fs ss
+    (same_text f.name.now (codes (called_of s))
+    && same_texts (map (λ t. t.now) f.fields.now) (names_of s)) && are_named fs ss
 are_named _ _ = false
 
 abbrev pub no_struct : Struct

@@ -1,12 +1,15 @@
--- The first pass over a message: the first frame fault in reading order, or what is left of the budget. It is a reading
--- of which nothing is kept.
+-- The first pass over a message: the first frame fault in reading order, or what is left of the
+-- budget. It is a reading of which nothing is kept.
 use Rattle.std.specs.Prelude.{◌≡◌, ℕ, zero, suc, ◌+◌, Result, Ok, Err, if◌then◌else◌}
 use Rattle.ix_num.specs.declared.fault.FrameFault.{FrameFault}
 use Rattle.ix_rec.specs.declared.fault.ReadFault.{ReadFault}
 use Rattle.ix_frame.specs.Result.{◌>>=◌}
-use Rattle.ix_frame.specs.Objects.{text_at, struct_at, elements_at, list_at, has_pointer, element_of, text_in}
+use Rattle.ix_frame.specs.Objects.{text_at, struct_at, elements_at, list_at, has_pointer}
+use Rattle.ix_frame.specs.Objects.{element_of, text_in}
 use Rattle.ix_frame.specs.Target.{Object, Elements}
-use Rattle.ix_message.specs.Shape.{Struct, Pointers, struct_of, no_more, text, texts, numbers, struct, struct_or_none, boxed, structs, branches, string_table, unread}
+use Rattle.ix_message.specs.Shape.{Struct, Pointers, struct_of, no_more, text, texts, numbers}
+use Rattle.ix_message.specs.Shape.{struct, struct_or_none, boxed, structs, branches, string_table}
+use Rattle.ix_message.specs.Shape.{unread}
 use Rattle.ix_message_read.specs.Tells.{Fails}
 
 abbrev pub Left : Type 0
@@ -61,7 +64,8 @@ unfoldable mutual
     left ← left_at s inner.0 inner.1
     parts_left ps (slot + 1) o left
   parts_left (struct_or_none called s ps) slot o budget = do
-    left ← if has_pointer o slot then (struct_at o slot budget >>= λ inner. left_at s inner.0 inner.1) else Ok budget
+    left ← if has_pointer o slot then (struct_at o slot budget
+        >>= λ inner. left_at s inner.0 inner.1) else Ok budget
     parts_left ps (slot + 1) o left
   parts_left (boxed called kind inner s ps) slot o budget = do
     box ← struct_at o slot budget

@@ -15,10 +15,15 @@ use Rattle.ix_schema.specs.Passed.{left_at}
 
 -- A struct is read as its first pass, and where that finds no fault, as what it says.
 abbrev pub ReadingsSplit : Type 0
-ReadingsSplit = (s : Struct) (o : Object) (budget : ℕ) → budget ≤ endless → value_at s o budget ≡ (left_at s o budget >>= λ left. Ok (said s o, left))
+ReadingsSplit = (s : Struct) (o : Object) (budget : ℕ) → budget ≤ endless
+    → value_at s o budget ≡ (left_at s o budget >>= λ left. Ok (said s o, left))
 
--- A message was passed over: it says its string table and what its root says, or the first frame fault is this. Want of
--- memory may be told at any time.
-abbrev pub PassesMessage : (s : Struct) → Result Obj ReadFault → Result (List Text × Value ℕ s) FrameFault → Type 0
-PassesMessage s (Ok root) given = given ≡ Ok (table_said s (object_of root), said s (object_of root))
+-- A message was passed over: it says its string table and what its root says, or the first frame
+-- fault is this. Want of memory may be told at any time.
+abbrev pub PassesMessage : (s : Struct) → Result Obj ReadFault
+    → Result (List Text × Value ℕ s) FrameFault → Type 0
+PassesMessage s (Ok root) given = given ≡ Ok (
+  table_said s (object_of root),
+  said s (object_of root),
+)
 PassesMessage s (Err e) given = Fails e given

@@ -18,16 +18,21 @@ struct Open<'a> {
 
 /// Puts a list of which so many branches were passed on top of the stack.
 fn put<'a>(stack: &mut Vec<Open<'a>>, list: List<'a>, next: u32) -> Result<(), Memory>
-    ensures { OnOk result (stack.new.items ≡ stack.old.items ++ record { list = list.entry; next = next } ∷ []) }
+    ensures { OnOk result (stack.new.items ≡ stack.old.items ++ record {
+      list = list.entry;
+      next = next;
+    } ∷ []) }
 {
     stack.push(Open { list, next })?;
     Ok(())
 }
 
-/// Passes over the branches of a list, each with all that is below it before the next. The lists that are not done are
-/// kept on a stack.
+/// Passes over the branches of a list, each with all that is below it before the next. The lists
+/// that are not done are kept on a stack.
 pub fn pass_branches(alloc: Global, l: List<'_>, budget: &mut Budget) -> Result<(), ReadFault>
-    ensures { (bound : ℕ) → (elements_of l.entry).count + budget.old < bound → Passes result budget.new (branches_left bound (elements_of l.entry).count (elements_of l.entry) 0 budget.old) }
+    ensures { (bound : ℕ) → (elements_of l.entry).count + budget.old < bound
+        → Passes result budget.new (branches_left bound (elements_of l.entry).count
+        (elements_of l.entry) 0 budget.old) }
 {
     let mut stack = Vec::new(alloc);
     put(&mut stack, l, 0)?;

@@ -23,8 +23,8 @@ pub enum Behind {
     Unread,
 }
 
-/// A struct of a message: its name, the names of its data fields and then of its pointer fields, both in slot order, and
-/// what stands behind the latter.
+/// A struct of a message: its name, the names of its data fields and then of its pointer fields,
+/// both in slot order, and what stands behind the latter.
 #[derive(Clone, Copy)]
 pub struct StructForm {
     /// The struct's name.

@@ -1,4 +1,5 @@
-//! The tables of the messages as values that code walks, and the first pass over a message, which goes by them.
+//! The tables of the messages as values that code walks, and the first pass over a message, which
+//! goes by them.
 #![tactic(auto)]
 
 mod branches;

@@ -15,9 +15,10 @@ use ix_rec::ReadFault;
 use std::alloc::Global;
 
 impl Table {
-    /// Passes over the message of a frame: over its string table, which stands in this slot of the root, and then over the
-    /// root, which is the struct with this number. Tells the root, of which all is sound then, or the first fault of the
-    /// frame. Takes memory only for the lists of branches that are open at a time.
+    /// Passes over the message of a frame: over its string table, which stands in this slot of the
+    /// root, and then over the root, which is the struct with this number. Tells the root, of which
+    /// all is sound then, or the first fault of the frame. Takes memory only for the lists of
+    /// branches that are open at a time.
     pub fn pass_message<'a>(
         &self,
         alloc: Global,
@@ -26,7 +27,9 @@ impl Table {
         frame: &Frame<'a>,
     ) -> Result<Obj<'a>, ReadFault>
         requires { n < length self.now.structs.now }
-        ensures { (s : Struct) → is_form self.now.structs.now n s ≡ true → slot ≡ table_slot (pointers_of s) → PassesMessage s result (numbers_in_segments s (segments_of frame.now)) }
+        ensures { (s : Struct) → is_form self.now.structs.now n s ≡ true
+            → slot ≡ table_slot (pointers_of s) → PassesMessage s result
+            (numbers_in_segments s (segments_of frame.now)) }
     {
         let mut budget = Budget::new(frame);
         let root = frame.root(&mut budget)?;

@@ -3,8 +3,10 @@
 ghost use Rattle.std.specs.Prelude.{◌≡◌, ◌<◌, length, true, slice_get};
 ghost use Rattle.ix_frame.specs.Views.{object_of, elements_of, text_elements};
 ghost use Rattle.ix_message.specs.Shape.{Struct};
-ghost use Rattle.ix_schema.specs.Forms.{is_form, is_behind, IsLower, Ordered, pointer_left, pointers_in};
-ghost use Rattle.ix_schema.specs.Passed.{left_at, each_left, texts_left, texts_passed, branches_left, Passes, PassesAlone};
+ghost use Rattle.ix_schema.specs.Forms.{is_form, is_behind, IsLower, Ordered, pointer_left};
+ghost use Rattle.ix_schema.specs.Forms.{pointers_in};
+ghost use Rattle.ix_schema.specs.Passed.{left_at, each_left, texts_left, texts_passed};
+ghost use Rattle.ix_schema.specs.Passed.{branches_left, Passes, PassesAlone};
 
 use crate::branches::pass_branches;
 use crate::form::Behind;
@@ -16,7 +18,8 @@ use std::alloc::Global;
 
 /// Passes over the texts of a list.
 fn pass_texts(l: Texts<'_>, budget: &mut Budget) -> Result<(), FrameFault>
-    ensures { PassesAlone result budget.new (texts_left (text_elements l.entry).count (text_elements l.entry) 0 budget.old) }
+    ensures { PassesAlone result budget.new
+        (texts_left (text_elements l.entry).count (text_elements l.entry) 0 budget.old) }
 {
     for i in 0..l.len() {
         match l.at(i, budget) {
@@ -46,8 +49,8 @@ impl Table {
         self.structs[n].pointers
     }
 
-    /// Passes over a struct of this number with all that its pointers lead to, in reading order, and takes its cost from
-    /// the budget. Else the first fault of the frame.
+    /// Passes over a struct of this number with all that its pointers lead to, in reading order,
+    /// and takes its cost from the budget. Else the first fault of the frame.
     #[cycle(pass)]
     pub fn pass(
         &self,
@@ -57,7 +60,8 @@ impl Table {
         budget: &mut Budget,
     ) -> Result<(), ReadFault>
         requires { n < length self.now.structs.now }
-        ensures { (s : Struct) → is_form self.now.structs.now n s ≡ true → Passes result budget.new (left_at s (object_of o.entry) budget.old) }
+        ensures { (s : Struct) → is_form self.now.structs.now n s ≡ true
+            → Passes result budget.new (left_at s (object_of o.entry) budget.old) }
     {
         let pointers = self.pointers_of(n);
         for slot in 0..pointers.len() {
@@ -79,7 +83,9 @@ impl Table {
         budget: &mut Budget,
     ) -> Result<(), ReadFault>
         requires { n < length self.now.structs.now }
-        ensures { (s : Struct) → is_form self.now.structs.now n s ≡ true → Passes result budget.new (each_left (left_at s) (elements_of l.entry).count (elements_of l.entry) 0 budget.old) }
+        ensures { (s : Struct) → is_form self.now.structs.now n s ≡ true
+            → Passes result budget.new (each_left (left_at s) (elements_of l.entry).count
+            (elements_of l.entry) 0 budget.old) }
     {
         if self.pointers_of(n).is_empty() {
             return Ok(());
@@ -107,7 +113,9 @@ impl Table {
     ) -> Result<(), ReadFault>
         requires number { n < length self.now.structs.now }
         requires lower { IsLower n behind }
-        ensures { (s : Struct) → is_behind self.now.structs.now behind s ≡ true → Passes result budget.new (pointer_left behind (left_at s) slot (object_of o.entry) budget.old) }
+        ensures { (s : Struct) → is_behind self.now.structs.now behind s ≡ true
+            → Passes result budget.new (pointer_left behind (left_at s) slot (object_of o.entry)
+            budget.old) }
     {
         match behind {
             Behind::Text => {

@@ -5,7 +5,8 @@ ghost use Rattle.ix_schema.specs.Forms.{are_ordered};
 
 use crate::form::StructForm;
 
-/// The structs of a message by their numbers, each with lower numbers behind its pointers than its own.
+/// The structs of a message by their numbers, each with lower numbers behind its pointers than its
+/// own.
 #[derive(Clone, Copy)]
 pub struct Table {
     /// The structs by their numbers.
@@ -21,7 +22,8 @@ impl Table {
 
     /// The name of the struct with this number, empty where there is none.
     pub fn name(&self, n: usize) -> &'static str
-        ensures { (ss : Items Struct) → are_named self.now.structs.now ss ≡ true → result.now ≡ kind_text ss n }
+        ensures { (ss : Items Struct) → are_named self.now.structs.now ss ≡ true
+            → result.now ≡ kind_text ss n }
     {
         match self.structs.get(n) {
             Some(form) => form.name,
@@ -29,10 +31,11 @@ impl Table {
         }
     }
 
-    /// The name of this field of the struct with this number, empty where there is none: data fields are counted before
-    /// pointer fields.
+    /// The name of this field of the struct with this number, empty where there is none: data
+    /// fields are counted before pointer fields.
     pub fn field(&self, n: usize, field: usize) -> &'static str
-        ensures { (ss : Items Struct) → are_named self.now.structs.now ss ≡ true → result.now ≡ field_text ss n field }
+        ensures { (ss : Items Struct) → are_named self.now.structs.now ss ≡ true
+            → result.now ≡ field_text ss n field }
     {
         let Some(form) = self.structs.get(n) else {
             return "";

@@ -1,7 +1,8 @@
 //! The files of the system as a shelf.
 
 ghost use Rattle.std.specs.Prelude.{◌≡◌, ◌<◌, ◌≤◌, ◌⊎◌, [], length, option_map, IfOk, OnOk, OnErr};
-ghost use Rattle.ix_shelf.specs.Shelf.{NoneFalls, with_file, after_append, Rose, IsAbsent, ReadsFile};
+ghost use Rattle.ix_shelf.specs.Shelf.{NoneFalls, with_file, after_append, Rose, IsAbsent};
+ghost use Rattle.ix_shelf.specs.Shelf.{ReadsFile};
 ghost use Rattle.ix_shelf.specs.Faults.{risen, faults_after};
 
 use crate::shelf::{Failed, Shelf};
@@ -11,9 +12,9 @@ use std::io::{Read, Seek, SeekFrom, Write};
 
 /// The files of the system, by their paths.
 ///
-/// What a file holds is the system's to say, so this shelf tells contracts no files. It counts each read, create and
-/// append that failed, and each append that took nothing of a piece that isn't empty. Its counts stay at the end of
-/// their type.
+/// What a file holds is the system's to say, so this shelf tells contracts no files. It counts each
+/// read, create and append that failed, and each append that took nothing of a piece that isn't
+/// empty. Its counts stay at the end of their type.
 #[derive(Drop)]
 pub struct DiskShelf<'a, R> {
     rt: &'a R,
@@ -55,7 +56,8 @@ fn append_part<R: Files>(rt: &R, name: &str, piece: &[u8]) -> io::Result<usize>
 }
 
 impl<R: Files> Shelf for DiskShelf<'_, R> {
-    ghost use Rattle.ix_shelf.specs.DiskShelf.{files_of, read_faults_of, write_faults_of, read_counts_of, write_counts_of};
+    ghost use Rattle.ix_shelf.specs.DiskShelf.{files_of, read_faults_of, write_faults_of};
+    ghost use Rattle.ix_shelf.specs.DiskShelf.{read_counts_of, write_counts_of};
 
     ghost files = { λ shelf. files_of shelf };
 
@@ -69,8 +71,10 @@ impl<R: Files> Shelf for DiskShelf<'_, R> {
         ensures write_faults { write_counts_of self.new ≡ write_counts_of self.old }
         ensures read_faults { NoneFalls (read_counts_of self.old) (read_counts_of self.new) }
         ensures room { IfOk result (λ n. n ≤ length into.old) }
-        ensures bytes { IfOk result (λ n. ReadsFile (files_of self.old) name.now at (length into.old) into.new n) }
-        ensures cause { OnErr result (Rose (read_counts_of self.old name.now) (read_counts_of self.new name.now) ⊎ IsAbsent (files_of self.old) name.now) }
+        ensures bytes { IfOk result (λ n. ReadsFile (files_of self.old) name.now at
+            (length into.old) into.new n) }
+        ensures cause { OnErr result (Rose (read_counts_of self.old name.now)
+            (read_counts_of self.new name.now) ⊎ IsAbsent (files_of self.old) name.now) }
 
         ensures ok { OnOk result (read_faults_of self.new ≡ read_faults_of self.old) }
         ensures err { OnErr result (read_faults_of self.new ≡ risen (read_faults_of self.old)) }
@@ -88,9 +92,11 @@ impl<R: Files> Shelf for DiskShelf<'_, R> {
     fn create(&mut self, name: &str) -> Result<(), Failed>
         ensures read_faults { read_counts_of self.new ≡ read_counts_of self.old }
         ensures write_faults { NoneFalls (write_counts_of self.old) (write_counts_of self.new) }
-        ensures made { OnOk result (files_of self.new ≡ option_map (with_file name.now []) (files_of self.old)) }
+        ensures made { OnOk result (files_of self.new
+            ≡ option_map (with_file name.now []) (files_of self.old)) }
         ensures unchanged { OnErr result (files_of self.new ≡ files_of self.old) }
-        ensures cause { OnErr result (Rose (write_counts_of self.old name.now) (write_counts_of self.new name.now)) }
+        ensures cause { OnErr result (Rose (write_counts_of self.old name.now)
+            (write_counts_of self.new name.now)) }
 
         ensures ok { OnOk result (write_faults_of self.new ≡ write_faults_of self.old) }
         ensures err { OnErr result (write_faults_of self.new ≡ risen (write_faults_of self.old)) }
@@ -104,18 +110,22 @@ impl<R: Files> Shelf for DiskShelf<'_, R> {
         }
     }
 
-    /// As of every shelf. Where it fails, or takes nothing of a piece that isn't empty, and only there, the count of
-    /// write faults rises, by one.
+    /// As of every shelf. Where it fails, or takes nothing of a piece that isn't empty, and only
+    /// there, the count of write faults rises, by one.
     fn append(&mut self, name: &str, piece: &[u8]) -> Result<usize, Failed>
         ensures read_faults { read_counts_of self.new ≡ read_counts_of self.old }
         ensures write_faults { NoneFalls (write_counts_of self.old) (write_counts_of self.new) }
         ensures taken { IfOk result (λ n. n ≤ length piece.now) }
-        ensures added { IfOk result (λ n. files_of self.new ≡ option_map (after_append name.now piece.now n) (files_of self.old)) }
-        ensures nothing { IfOk result (λ n. n ≡ 0 → 0 < length piece.now → Rose (write_counts_of self.old name.now) (write_counts_of self.new name.now)) }
+        ensures added { IfOk result (λ n. files_of self.new
+            ≡ option_map (after_append name.now piece.now n) (files_of self.old)) }
+        ensures nothing { IfOk result (λ n. n ≡ 0 → 0 < length piece.now
+            → Rose (write_counts_of self.old name.now) (write_counts_of self.new name.now)) }
         ensures unchanged { OnErr result (files_of self.new ≡ files_of self.old) }
-        ensures cause { OnErr result (Rose (write_counts_of self.old name.now) (write_counts_of self.new name.now)) }
+        ensures cause { OnErr result (Rose (write_counts_of self.old name.now)
+            (write_counts_of self.new name.now)) }
 
-        ensures count { write_faults_of self.new ≡ faults_after result piece.now (write_faults_of self.old) }
+        ensures count { write_faults_of self.new
+            ≡ faults_after result piece.now (write_faults_of self.old) }
     {
         match append_part(self.rt, name, piece) {
             Ok(taken) => {

@@ -1,7 +1,9 @@
 //! Whole files of a shelf.
 
-ghost use Rattle.std.specs.Prelude.{◌≡◌, ◌≢◌, ◌<◌, ◌≤◌, ◌⊎◌, ◌^◌, length, take, drop, vec_len, option_map, Err, IfOk, OnOk, IfErr, OnErr, IsErrOf};
-ghost use Rattle.ix_shelf.specs.Shelf.{NoneFalls, with_file, Rose, IsAbsent, IsWholeFile, IsTooLarge, LeavesPrefix};
+ghost use Rattle.std.specs.Prelude.{◌≡◌, ◌≢◌, ◌<◌, ◌≤◌, ◌⊎◌, ◌^◌, length, take, drop, vec_len};
+ghost use Rattle.std.specs.Prelude.{option_map, Err, IfOk, OnOk, IfErr, OnErr, IsErrOf};
+ghost use Rattle.ix_shelf.specs.Shelf.{NoneFalls, with_file, Rose, IsAbsent, IsWholeFile};
+ghost use Rattle.ix_shelf.specs.Shelf.{IsTooLarge, LeavesPrefix};
 
 use crate::shelf::Shelf;
 use std::alloc::{AllocError, Global};
@@ -42,16 +44,20 @@ fn make_buffer(alloc: Global, size: usize) -> Result<Vec<u8>, AllocError>
 
 /// The bytes of a file to its end.
 ///
-/// `Read` comes only where the count of read faults of that name rose in this call, or where the shelf tells its files and has
-/// none of that name; `TooLarge` only where the file has a byte past 2^30, and there a file is never read; `Write` never.
+/// `Read` comes only where the count of read faults of that name rose in this call, or where the
+/// shelf tells its files and has none of that name; `TooLarge` only where the file has a byte past
+/// 2^30, and there a file is never read; `Write` never.
 pub fn read_file<S: Shelf>(alloc: Global, shelf: &mut S, name: &str) -> Result<Vec<u8>, FileFault>
     ensures files { S.files shelf.new ≡ S.files shelf.old }
     ensures write_faults { S.write_faults shelf.new ≡ S.write_faults shelf.old }
     ensures read_faults { NoneFalls (S.read_faults shelf.old) (S.read_faults shelf.new) }
     ensures whole { IfOk result (λ bytes. IsWholeFile (S.files shelf.old) name.now bytes.items) }
     ensures small { IfOk result (λ bytes. vec_len bytes ≤ 2 ^ 30) }
-    ensures read { IsErrOf result FileFault.Read → Rose (S.read_faults shelf.old name.now) (S.read_faults shelf.new name.now) ⊎ IsAbsent (S.files shelf.old) name.now }
-    ensures too_large { IsErrOf result FileFault.TooLarge → IsTooLarge (S.files shelf.old) name.now (2 ^ 30) }
+    ensures read { IsErrOf result FileFault.Read
+        → Rose (S.read_faults shelf.old name.now) (S.read_faults shelf.new name.now)
+        ⊎ IsAbsent (S.files shelf.old) name.now }
+    ensures too_large { IsErrOf result FileFault.TooLarge
+        → IsTooLarge (S.files shelf.old) name.now (2 ^ 30) }
     ensures not_write { result ≢ Err FileFault.Write }
 {
     match make_buffer(alloc, BUFFER_BYTES) {
@@ -73,8 +79,11 @@ fn read_by<S: Shelf>(
     ensures read_faults { NoneFalls (S.read_faults shelf.old) (S.read_faults shelf.new) }
     ensures whole { IfOk result (λ bytes. IsWholeFile (S.files shelf.old) name.now bytes.items) }
     ensures small { IfOk result (λ bytes. vec_len bytes ≤ 2 ^ 30) }
-    ensures read { IsErrOf result FileFault.Read → Rose (S.read_faults shelf.old name.now) (S.read_faults shelf.new name.now) ⊎ IsAbsent (S.files shelf.old) name.now }
-    ensures too_large { IsErrOf result FileFault.TooLarge → IsTooLarge (S.files shelf.old) name.now (2 ^ 30) }
+    ensures read { IsErrOf result FileFault.Read
+        → Rose (S.read_faults shelf.old name.now) (S.read_faults shelf.new name.now)
+        ⊎ IsAbsent (S.files shelf.old) name.now }
+    ensures too_large { IsErrOf result FileFault.TooLarge
+        → IsTooLarge (S.files shelf.old) name.now (2 ^ 30) }
     ensures not_write { result ≢ Err FileFault.Write }
 {
     let mut bytes = Vec::new(alloc);
@@ -96,7 +105,8 @@ fn read_by<S: Shelf>(
     }
 }
 
-/// The next piece of the bytes from a place on: 65,536 bytes, or all that are left where these are fewer.
+/// The next piece of the bytes from a place on: 65,536 bytes, or all that are left where these are
+/// fewer.
 fn next_piece(bytes: &[u8], at: usize) -> &[u8]
     requires { at ≤ length bytes.now }
     ensures { result.now ≡ take 65536 (drop at bytes.now) }
@@ -105,17 +115,21 @@ fn next_piece(bytes: &[u8], at: usize) -> &[u8]
     &bytes[at..at + size]
 }
 
-/// Makes the file these bytes: creates it, then appends pieces until all bytes are taken. Each append is given the
-/// next 65,536 bytes, or all that are left where these are fewer.
+/// Makes the file these bytes: creates it, then appends pieces until all bytes are taken. Each
+/// append is given the next 65,536 bytes, or all that are left where these are fewer.
 ///
-/// It fails with `Write` alone, and only where the count of write faults of that name rose in this call. Then the file holds a
-/// prefix of the bytes, or all is as before where it could not be created. It takes no memory.
+/// It fails with `Write` alone, and only where the count of write faults of that name rose in this
+/// call. Then the file holds a prefix of the bytes, or all is as before where it could not be
+/// created. It takes no memory.
 pub fn write_file<S: Shelf>(shelf: &mut S, name: &str, bytes: &[u8]) -> Result<(), FileFault>
     ensures read_faults { S.read_faults shelf.new ≡ S.read_faults shelf.old }
     ensures write_faults { NoneFalls (S.write_faults shelf.old) (S.write_faults shelf.new) }
-    ensures all { OnOk result (S.files shelf.new ≡ option_map (with_file name.now bytes.now) (S.files shelf.old)) }
-    ensures prefix { OnErr result (LeavesPrefix name.now bytes.now (S.files shelf.old) (S.files shelf.new)) }
-    ensures cause { OnErr result (Rose (S.write_faults shelf.old name.now) (S.write_faults shelf.new name.now)) }
+    ensures all { OnOk result (S.files shelf.new
+        ≡ option_map (with_file name.now bytes.now) (S.files shelf.old)) }
+    ensures prefix { OnErr result (LeavesPrefix name.now bytes.now (S.files shelf.old)
+        (S.files shelf.new)) }
+    ensures cause { OnErr result (Rose (S.write_faults shelf.old name.now)
+        (S.write_faults shelf.new name.now)) }
     ensures only_write { IfErr result (λ fault. fault ≡ FileFault.Write) }
 {
     if shelf.create(name).is_err() {

@@ -1,8 +1,8 @@
 //! The outside, seen from the program: a shelf of named files and a sink for printed bytes.
 //!
-//! Both are traits, so that the program is proved over every shelf and every sink, and tried over ones in
-//! memory that fail when they are told to. `DiskShelf` and `OutSink` are the trusted edge to real files and to
-//! standard output.
+//! Both are traits, so that the program is proved over every shelf and every sink, and tried over
+//! ones in memory that fail when they are told to. `DiskShelf` and `OutSink` are the trusted edge
+//! to real files and to standard output.
 #![tactic(auto)]
 
 mod disk_shelf;

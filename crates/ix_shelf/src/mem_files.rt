@@ -1,6 +1,7 @@
 //! Files in a map.
 
-ghost use Rattle.std.specs.Prelude.{◌≡◌, ◌≤◌, ◌++◌, [], length, take, drop, option_copied, unwrap_or, Some, IsSome, IsOk, OnOk, OnErr};
+ghost use Rattle.std.specs.Prelude.{◌≡◌, ◌≤◌, ◌++◌, [], length, take, drop, option_copied};
+ghost use Rattle.std.specs.Prelude.{unwrap_or, Some, IsSome, IsOk, OnOk, OnErr};
 ghost use Rattle.ix_shelf.specs.Shelf.{with_file};
 ghost use Rattle.ix_shelf.specs.MemFiles.{files_in, given_at};
 
@@ -23,7 +24,8 @@ pub fn file_in<'a>(files: &'a FileMap, name: &str) -> Option<&'a [u8]>
 
 /// Makes the file these bytes. `Memory` leaves all files as before.
 pub fn set_file(alloc: Global, files: &mut FileMap, name: &str, bytes: &[u8]) -> Result<(), Memory>
-    ensures ok { OnOk result (files_in files.new ≡ with_file name.now bytes.now (files_in files.old)) }
+    ensures ok { OnOk result (files_in files.new
+        ≡ with_file name.now bytes.now (files_in files.old)) }
     ensures err { OnErr result (files_in files.new ≡ files_in files.old) }
 {
     let Ok(key) = String::from_str(alloc, name) else {
@@ -38,8 +40,8 @@ pub fn set_file(alloc: Global, files: &mut FileMap, name: &str, bytes: &[u8]) ->
     }
 }
 
-/// Makes the file empty, a new one where there is none. `Memory` leaves all files as before, and comes only where there
-/// is none.
+/// Makes the file empty, a new one where there is none. `Memory` leaves all files as before, and
+/// comes only where there is none.
 pub fn empty_file(alloc: Global, files: &mut FileMap, name: &str) -> Result<(), Memory>
     ensures ok { OnOk result (files_in files.new ≡ with_file name.now [] (files_in files.old)) }
     ensures err { OnErr result (files_in files.new ≡ files_in files.old) }
@@ -52,8 +54,8 @@ pub fn empty_file(alloc: Global, files: &mut FileMap, name: &str) -> Result<(), 
     set_file(alloc, files, name, &[])
 }
 
-/// Adds a piece to the end of a file, which is made where there is none. `Memory` leaves all files as before, and comes
-/// only where there is none or the piece isn't empty.
+/// Adds a piece to the end of a file, which is made where there is none. `Memory` leaves all files
+/// as before, and comes only where there is none or the piece isn't empty.
 pub fn add_to_file(
     alloc: Global,
     files: &mut FileMap,
@@ -61,7 +63,8 @@ pub fn add_to_file(
     piece: &[u8],
 ) -> Result<(), Memory>
     ensures ok { OnOk result (files_in files.new
-        ≡ with_file name.now (unwrap_or (files_in files.old name.now) [] ++ piece.now) (files_in files.old)) }
+        ≡ with_file name.now (unwrap_or (files_in files.old name.now) [] ++ piece.now)
+        (files_in files.old)) }
     ensures err { OnErr result (files_in files.new ≡ files_in files.old) }
     ensures there { IsSome (files_in files.old name.now) → length piece.now ≡ 0 → IsOk result }
 {
@@ -74,7 +77,8 @@ pub fn add_to_file(
     set_file(alloc, files, name, piece)
 }
 
-/// Copies bytes of a file, from the byte `at` on, to the front of `into`: as many as this room takes and the file has.
+/// Copies bytes of a file, from the byte `at` on, to the front of `into`: as many as this room
+/// takes and the file has.
 pub fn copy_at(file: &[u8], at: u64, room: usize, into: &mut [u8]) -> usize
     requires { room ≤ length into.old }
     ensures given { result ≡ given_at (Some file.now) at room }

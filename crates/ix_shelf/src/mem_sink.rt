@@ -1,6 +1,7 @@
 //! A sink in memory.
 
-ghost use Rattle.std.specs.Prelude.{◌≡◌, ◌<◌, ◌≤◌, ◌++◌, ◌∷◌, [], ℕ, List, length, take, Option, Some, None, Ok, IsOk, IsErr, IfOk, OnOk, OnErr};
+ghost use Rattle.std.specs.Prelude.{◌≡◌, ◌<◌, ◌≤◌, ◌++◌, ◌∷◌, [], ℕ, List, length, take, Option};
+ghost use Rattle.std.specs.Prelude.{Some, None, Ok, IsOk, IsErr, IfOk, OnOk, OnErr};
 ghost use Rattle.ix_shelf.specs.Shelf.{Rose};
 ghost use Rattle.ix_shelf.specs.Sink.{with_bytes};
 ghost use Rattle.ix_shelf.specs.Faults.{risen, within, faults_after, IsNamed, TakesNothing};
@@ -11,7 +12,8 @@ use crate::sink::Sink;
 use ix_num::Memory;
 use std::alloc::Global;
 
-/// A sink that keeps its bytes in memory, and fails, or takes less, at the calls that it was told to.
+/// A sink that keeps its bytes in memory, and fails, or takes less, at the calls that it was told
+/// to.
 ///
 /// Its calls of `put` are numbered from 0. All its counts stay at the end of their type.
 #[derive(Drop)]
@@ -23,9 +25,11 @@ pub struct MemSink {
 }
 
 impl MemSink {
-    ghost use Rattle.ix_shelf.specs.MemSink.{bytes_of, calls_of, failing_of, nothing_of, limit_of, faults_of, starved_of};
+    ghost use Rattle.ix_shelf.specs.MemSink.{bytes_of, calls_of, failing_of, nothing_of, limit_of};
+    ghost use Rattle.ix_shelf.specs.MemSink.{faults_of, starved_of};
 
-    /// A sink with no bytes, of which no call is to fail, to take nothing or to take less than it can.
+    /// A sink with no bytes, of which no call is to fail, to take nothing or to take less than it
+    /// can.
     pub fn new(alloc: Global) -> MemSink
         ensures bytes { bytes_of result ≡ [] }
         ensures calls { calls_of result ≡ 0 }
@@ -64,8 +68,9 @@ impl MemSink {
         self.plan.fail_at(call)
     }
 
-    /// Lets the call with this number, from 0, take 0 bytes, and counts a fault for it, where its piece isn't empty and `fail_at`
-    /// doesn't name it. Else this is without effect. `Memory` leaves all as before.
+    /// Lets the call with this number, from 0, take 0 bytes, and counts a fault for it, where its
+    /// piece isn't empty and `fail_at` doesn't name it. Else this is without effect. `Memory`
+    /// leaves all as before.
     pub fn nothing_at(&mut self, call: u64) -> Result<(), Memory>
         ensures ok { OnOk result (nothing_of self.new ≡ nothing_of self.old ++ call ∷ []) }
         ensures err { OnErr result (nothing_of self.new ≡ nothing_of self.old) }
@@ -102,20 +107,24 @@ impl MemSink {
 }
 
 impl Sink for MemSink {
-    ghost use Rattle.ix_shelf.specs.MemSink.{bytes_of, calls_of, failing_of, nothing_of, limit_of, faults_of, starved_of};
+    ghost use Rattle.ix_shelf.specs.MemSink.{bytes_of, calls_of, failing_of, nothing_of, limit_of};
+    ghost use Rattle.ix_shelf.specs.MemSink.{faults_of, starved_of};
 
     ghost told = { λ sink. Some (bytes_of sink) };
 
     ghost faults = { λ sink. faults_of sink };
 
-    /// As of every sink. The number of the next call rises by one. A call that is to fail does, and one that is to take nothing
-    /// of a piece that isn't empty takes nothing; another one takes all of its piece that its limit lets it, or fails because
-    /// memory ran out, which counts as a fault and as starved.
+    /// As of every sink. The number of the next call rises by one. A call that is to fail does, and
+    /// one that is to take nothing of a piece that isn't empty takes nothing; another one takes all
+    /// of its piece that its limit lets it, or fails because memory ran out, which counts as a
+    /// fault and as starved.
     fn put(&mut self, piece: &[u8]) -> Result<usize, Failed>
         ensures faults { faults_of self.old ≤ faults_of self.new }
         ensures taken { IfOk result (λ n. n ≤ length piece.now) }
-        ensures put { IfOk result (λ n. Some (bytes_of self.new) ≡ with_bytes (take n piece.now) (Some (bytes_of self.old))) }
-        ensures nothing { IfOk result (λ n. n ≡ 0 → 0 < length piece.now → Rose (faults_of self.old) (faults_of self.new)) }
+        ensures put { IfOk result (λ n. Some (bytes_of self.new)
+            ≡ with_bytes (take n piece.now) (Some (bytes_of self.old))) }
+        ensures nothing { IfOk result (λ n. n ≡ 0 → 0 < length piece.now
+            → Rose (faults_of self.old) (faults_of self.new)) }
         ensures unchanged { OnErr result (Some (bytes_of self.new) ≡ Some (bytes_of self.old)) }
         ensures cause { OnErr result (Rose (faults_of self.old) (faults_of self.new)) }
 
@@ -128,11 +137,14 @@ impl Sink for MemSink {
             → TakesNothing (nothing_of self.old) (calls_of self.old) piece.now → result ≡ Ok 0 }
         ensures takes { ¬ TakesNothing (nothing_of self.old) (calls_of self.old) piece.now
             → IfOk result (λ n. n ≡ within (limit_of self.old) (length piece.now)) }
-        ensures empty { ¬ IsNamed (failing_of self.old) (calls_of self.old) → length piece.now ≡ 0 → IsOk result }
+        ensures empty { ¬ IsNamed (failing_of self.old) (calls_of self.old) → length piece.now ≡ 0
+            → IsOk result }
         ensures count { faults_of self.new ≡ faults_after result piece.now (faults_of self.old) }
         ensures ok_starved { OnOk result (starved_of self.new ≡ starved_of self.old) }
-        ensures named_starved { IsNamed (failing_of self.old) (calls_of self.old) → starved_of self.new ≡ starved_of self.old }
-        ensures starved { ¬ IsNamed (failing_of self.old) (calls_of self.old) → OnErr result (starved_of self.new ≡ risen (starved_of self.old)) }
+        ensures named_starved { IsNamed (failing_of self.old) (calls_of self.old)
+            → starved_of self.new ≡ starved_of self.old }
+        ensures starved { ¬ IsNamed (failing_of self.old) (calls_of self.old)
+            → OnErr result (starved_of self.new ≡ risen (starved_of self.old)) }
     {
         let nothing = self.plan.next_takes_nothing();
         if self.plan.next_fails() {

@@ -12,8 +12,8 @@ use std::io::{Print, Write};
 
 /// Standard output.
 ///
-/// Nobody can ask it what it was given, so this sink tells contracts no bytes. It counts each put that failed or took
-/// nothing of a piece that isn't empty. The count stays at the end of its type.
+/// Nobody can ask it what it was given, so this sink tells contracts no bytes. It counts each put
+/// that failed or took nothing of a piece that isn't empty. The count stays at the end of its type.
 #[derive(Drop)]
 pub struct OutSink<'a, R> {
     rt: &'a R,
@@ -48,13 +48,15 @@ impl<R: Print> Sink for OutSink<'_, R> {
 
     ghost faults = { λ sink. faults_of sink };
 
-    /// As of every sink. Where it fails, or takes nothing of a piece that isn't empty, and only there, the count of
-    /// faults rises, by one.
+    /// As of every sink. Where it fails, or takes nothing of a piece that isn't empty, and only
+    /// there, the count of faults rises, by one.
     fn put(&mut self, piece: &[u8]) -> Result<usize, Failed>
         ensures faults { faults_of self.old ≤ faults_of self.new }
         ensures taken { IfOk result (λ n. n ≤ length piece.now) }
-        ensures put { IfOk result (λ n. told_of self.new ≡ with_bytes (take n piece.now) (told_of self.old)) }
-        ensures nothing { IfOk result (λ n. n ≡ 0 → 0 < length piece.now → Rose (faults_of self.old) (faults_of self.new)) }
+        ensures put { IfOk result (λ n. told_of self.new
+            ≡ with_bytes (take n piece.now) (told_of self.old)) }
+        ensures nothing { IfOk result (λ n. n ≡ 0 → 0 < length piece.now
+            → Rose (faults_of self.old) (faults_of self.new)) }
         ensures unchanged { OnErr result (told_of self.new ≡ told_of self.old) }
         ensures cause { OnErr result (Rose (faults_of self.old) (faults_of self.new)) }
 

@@ -1,15 +1,16 @@
-//! The calls of a shelf or a sink in memory, by number: those that are to fail, those that take nothing, and how much a call
-//! takes at most.
+//! The calls of a shelf or a sink in memory, by number: those that are to fail, those that take
+//! nothing, and how much a call takes at most.
 
-ghost use Rattle.std.specs.Prelude.{◌≡◌, ◌≤◌, ◌<◌, ◌↔◌, ◌++◌, ◌∷◌, [], Some, None, IsTrue, OnOk, OnErr};
+ghost use Rattle.std.specs.Prelude.{◌≡◌, ◌≤◌, ◌<◌, ◌↔◌, ◌++◌, ◌∷◌, [], Some, None, IsTrue, OnOk};
+ghost use Rattle.std.specs.Prelude.{OnErr};
 ghost use Rattle.ix_shelf.specs.Faults.{risen, within, IsNamed};
 
 use crate::limit::Limit;
 use ix_num::Memory;
 use std::alloc::Global;
 
-/// The number of the next call, the numbers of the calls that are to fail and of those that take nothing, and how many bytes
-/// a call takes.
+/// The number of the next call, the numbers of the calls that are to fail and of those that take
+/// nothing, and how many bytes a call takes.
 #[derive(Drop)]
 pub struct Plan {
     calls: u64,

@@ -1,5 +1,6 @@
 -- A table of names is the list of its texts. No two are alike, and a name's number is its place.
-use Rattle.std.specs.Prelude.{◌≡◌, ℕ, ◌^◌, ◌<◌, Bool, List, [], ◌∷◌, ◌++◌, length, Option, Some, slice_get, if◌then◌else◌}
+use Rattle.std.specs.Prelude.{◌≡◌, ℕ, ◌^◌, ◌<◌, Bool, List, [], ◌∷◌, ◌++◌, length, Option, Some}
+use Rattle.std.specs.Prelude.{slice_get, if◌then◌else◌}
 use Rattle.std.specs.List.{list_any, position, position_or_len}
 use Rattle.std.specs.Str.{bytes_eq}
 
@@ -21,11 +22,13 @@ with_name names text = if has_name names text then names else names ++ text ∷ 
 
 -- no two names are alike: numbers of one text are equal
 abbrev pub AllDiffer : List (List ℕ) → Type 0
-AllDiffer names = (i j : ℕ) (text : List ℕ) → slice_get names i ≡ Some text → slice_get names j ≡ Some text → i ≡ j
+AllDiffer names = (i j : ℕ) (text : List ℕ) → slice_get names i ≡ Some text
+    → slice_get names j ≡ Some text → i ≡ j
 
 -- each name keeps its number
 abbrev pub KeepsNumbers : List (List ℕ) → List (List ℕ) → Type 0
-KeepsNumbers old new = (id : ℕ) (text : List ℕ) → slice_get old id ≡ Some text → slice_get new id ≡ Some text
+KeepsNumbers old new = (id : ℕ) (text : List ℕ) → slice_get old id ≡ Some text
+    → slice_get new id ≡ Some text
 
 -- what holds of the names in each table
 pub record IsTable (names : List (List ℕ)) : Type 0 where

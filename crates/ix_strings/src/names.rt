@@ -1,15 +1,17 @@
 //! The table of names.
 
-ghost use Rattle.std.specs.Prelude.{◌≡◌, ◌+◌, ◌-◌, ◌^◌, ◌<◌, ◌≤◌, ◌↔◌, [], Some, length, slice_get, Contains, IfOk, IfSome, IsSome, OnErr, OnOk};
-ghost use Rattle.ix_strings.specs.Names.{number_of, number_once_added, with_name, AllDiffer, KeepsNumbers};
+ghost use Rattle.std.specs.Prelude.{◌≡◌, ◌+◌, ◌-◌, ◌^◌, ◌<◌, ◌≤◌, ◌↔◌, [], Some, length, slice_get};
+ghost use Rattle.std.specs.Prelude.{Contains, IfOk, IfSome, IsSome, OnErr, OnOk};
+ghost use Rattle.ix_strings.specs.Names.{number_of, number_once_added, with_name, AllDiffer};
+ghost use Rattle.ix_strings.specs.Names.{KeepsNumbers};
 
 use indexmap::IndexSet;
 use ix_num::{Memory, NameId};
 use std::alloc::Global;
 use std::marker::Model;
 
-/// The names of a run, each once. A name's number is its place, from 0, in the order in which the names
-/// were added, and a name keeps it.
+/// The names of a run, each once. A name's number is its place, from 0, in the order in which the
+/// names were added, and a name keeps it.
 #[derive(Drop)]
 pub struct Names {
     alloc: Global,
@@ -38,8 +40,8 @@ impl Names {
         }
     }
 
-    /// The number of the text: its own where it is one of the names, else the next one, under which it is
-    /// added. The text is hashed once. The table grows, and after `Memory` it is as before.
+    /// The number of the text: its own where it is one of the names, else the next one, under which
+    /// it is added. The text is hashed once. The table grows, and after `Memory` it is as before.
     pub fn add(&mut self, text: &str) -> Result<NameId, Memory>
         requires { length self.old < 2 ^ 32 - 1 }
 
@@ -58,7 +60,8 @@ impl Names {
         Ok(NameId::new(place as u32))
     }
 
-    /// The number of the text; none exactly where it isn't one of the names. The text is hashed once.
+    /// The number of the text; none exactly where it isn't one of the names. The text is hashed
+    /// once.
     pub fn find(&self, text: &str) -> Option<NameId>
         ensures number { result ≡ number_of self.now text.now }
         ensures found { IsSome result ↔ Contains self.now text.now }

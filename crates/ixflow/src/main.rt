@@ -1,6 +1,8 @@
-//! `ixflow`: packs, places and routes a design for an FPGA, by files after the FPGA Interchange Format.
+//! `ixflow`: packs, places and routes a design for an FPGA, by files after the FPGA Interchange
+//! Format.
 //!
-//! The program is `ix_flow::run` over the files of the system and standard output, for the words of the command line.
+//! The program is `ix_flow::run` over the files of the system and standard output, for the words of
+//! the command line.
 #![tactic(auto)]
 
 mod words;

@@ -6,7 +6,8 @@ use std::env::{Env, FillError};
 // The room that is tried first for a word. It doubles until the word fits.
 const FIRST_ROOM: usize = 256;
 
-// The bytes of the word with this number, or nothing after the last. `AllocError` where they find no memory.
+// The bytes of the word with this number, or nothing after the last. `AllocError` where they find
+// no memory.
 fn word_bytes(env: &impl Env, alloc: Global, number: usize) -> Result<Option<Vec<u8>>, AllocError> {
     let mut room = FIRST_ROOM;
     for _ in 0..usize::BITS {
@@ -24,7 +25,8 @@ fn word_bytes(env: &impl Env, alloc: Global, number: usize) -> Result<Option<Vec
     Err(AllocError)
 }
 
-/// The words after the program's name. A word that isn't UTF-8 is taken with replacement characters.
+/// The words after the program's name. A word that isn't UTF-8 is taken with replacement
+/// characters.
 pub(crate) fn command_words(env: &impl Env, alloc: Global) -> Result<Vec<String>, AllocError> {
     let mut words = Vec::new(alloc);
     for number in 1..usize::MAX {

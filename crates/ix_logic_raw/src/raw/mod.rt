@@ -1,5 +1,6 @@
-//! The structs of a logical netlist message with their numbers as they stand in the file: a name is its place in the
-//! string table, and no index, tag or enumerant has been asked whether it is in its list.
+//! The structs of a logical netlist message with their numbers as they stand in the file: a name is
+//! its place in the string table, and no index, tag or enumerant has been asked whether it is in
+//! its list.
 
 mod cell;
 mod instance;

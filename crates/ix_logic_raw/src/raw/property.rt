@@ -49,7 +49,8 @@ pub(crate) fn read_properties(
     slot: u32,
     budget: &mut Budget,
 ) -> Result<Items<RawEntry>, ReadFault>
-    ensures { Tells (λ v. map entry_numbers v) result budget.new (entries_behind (object_of o.entry) slot budget.old) }
+    ensures { Tells (λ v. map entry_numbers v) result budget.new
+        (entries_behind (object_of o.entry) slot budget.old) }
 {
     let properties = o.obj(slot, budget)?;
     let entries = properties.list(slots::property_map::ENTRIES, budget)?;

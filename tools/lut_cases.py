@@ -2,6 +2,7 @@
 """What the program ix_lut_cases must print, by brute force over the definitions.
 
     tools/lut_cases.py                      write crates/ix_lut_cases/stdout
+    tools/lut_cases.py check                compare crates/ix_lut_cases/stdout with the answers
     tools/lut_cases.py random SEED COUNT    print random lines for its data/elements
 
 The program's head says how a case is written. A plan is found by trying all lists of lines in
@@ -9,6 +10,7 @@ order, and then all lists of ties in order; bits are forced and functions read v
 """
 import itertools
 import random
+import re
 import sys
 from collections import namedtuple
 from pathlib import Path
@@ -205,18 +207,45 @@ def told_permuted(bits, inputs, places):
     return f"{inputs} inputs, table {permuted(bits, places[:inputs]):x}"
 
 
+def told_init(inputs, number):
+    if not 1 <= int(inputs) <= 6:
+        return "not 1 to 6 inputs"
+    if number is None or number >= 1 << (1 << int(inputs)):
+        return "no reading"
+    return f"{inputs} inputs, table {number:x}"
+
+
+def told_text(inputs, text):
+    width = 1 << int(inputs)
+    hexadecimal = re.fullmatch(rf"(?:{width}'h|0x)([0-9a-fA-F]+)", text)
+    binary = re.fullmatch(rf"(?:{width}'b|0b)([01]+)|([01]{{{width}}})", text)
+    if hexadecimal:
+        return told_init(inputs, int(hexadecimal[1], 16))
+    return told_init(inputs, int(binary[1] or binary[2], 2) if binary else None)
+
+
+def told_number(inputs, number):
+    return told_init(inputs, int(number))
+
+
 def answer(call, given):
-    told = {"element": told_plan, "function": told_function, "permute": told_permuted}
+    told = {
+        "element": told_plan,
+        "function": told_function,
+        "permute": told_permuted,
+        "text": told_text,
+        "number": told_number,
+    }
     return told[call](*given)
 
 
-def write_expected():
+def expected():
     lines = []
     for line in (CASES / "data" / "elements").read_text().splitlines():
         if line and not line.startswith("#"):
             name, call, *given = [field.strip() for field in line.split("|")]
             lines.append(f"{name}: {answer(call, given)}\n")
-    (CASES / "stdout").write_text("".join(lines))
+    return "".join(lines)
 
 
 # Random cases.
@@ -332,5 +361,8 @@ def print_random(seed, count):
 if __name__ == "__main__":
     if sys.argv[1:2] == ["random"]:
         print_random(int(sys.argv[2]), int(sys.argv[3]))
+    elif sys.argv[1:2] == ["check"]:
+        if (CASES / "stdout").read_text() != expected():
+            sys.exit("crates/ix_lut_cases/stdout isn't what tools/lut_cases.py answers")
     else:
-        write_expected()
+        (CASES / "stdout").write_text(expected())

@@ -2,6 +2,7 @@
 """What the program ix_occupy_cases must print, by the definition and not by counting.
 
     tools/occupy_cases.py                 write crates/ix_occupy_cases/stdout
+    tools/occupy_cases.py check           compare crates/ix_occupy_cases/stdout with the answers
     tools/occupy_cases.py random SEED     print a line of steps for crates/ix_occupy_cases/data/steps
 
 A list of steps is lawful where each claim is of a node that its net doesn't hold and each release
@@ -72,12 +73,12 @@ def answer(nodes, steps):
     return "".join(parts) + f"shared {len(shared)}, first {first}"
 
 
-def write_expected():
+def expected():
     lines = []
     for line in (CASES / "data" / "steps").read_text().splitlines():
         name, nodes, words = line.split("|")
         lines.append(f"{name.strip()}: {answer(int(nodes), steps_of(words))}\n")
-    (CASES / "stdout").write_text("".join(lines))
+    return "".join(lines)
 
 
 def print_random(seed):
@@ -98,5 +99,8 @@ def print_random(seed):
 if __name__ == "__main__":
     if sys.argv[1:2] == ["random"]:
         print_random(int(sys.argv[2]))
+    elif sys.argv[1:2] == ["check"]:
+        if (CASES / "stdout").read_text() != expected():
+            sys.exit("crates/ix_occupy_cases/stdout isn't what tools/occupy_cases.py answers")
     else:
-        write_expected()
+        (CASES / "stdout").write_text(expected())

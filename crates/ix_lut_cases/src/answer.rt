@@ -7,7 +7,9 @@ use crate::checks::{are_places, are_uses, is_table, is_usable};
 use crate::reading::{bits_of, cells_of, shape_of, six_of, ties_of};
 use crate::telling::put_plan;
 use ix_cases::{field, number};
-use ix_lut::{ElementPlan, ElementShape, LutUse, Table, element, function_at, permute};
+use ix_lut::{
+    ElementPlan, ElementShape, InitValue, LutUse, Table, element, function_at, permute, read_init,
+};
 use std::alloc::{AllocError, Global};
 
 // Makes an element's plan so many times, and tells the last.
@@ -77,6 +79,16 @@ fn put_permuted(text: &mut String, line: &str) -> Result<(), AllocError> {
     put_table(text, permute(table, to))
 }
 
+fn put_init(text: &mut String, inputs: u32, value: InitValue<'_>) -> Result<(), AllocError> {
+    if inputs < 1 || inputs > 6 {
+        return text.push_str("not 1 to 6 inputs");
+    }
+    match read_init(value, inputs) {
+        Some(table) => put_table(text, table),
+        None => text.push_str("no reading"),
+    }
+}
+
 /// What the case of a line shows, and the answer.
 pub(crate) fn answer_to(alloc: Global, line: &str) -> Result<String, AllocError> {
     let mut text = String::from_str(alloc, field(line, 0))?;
@@ -90,6 +102,14 @@ pub(crate) fn answer_to(alloc: Global, line: &str) -> Result<String, AllocError>
         "element" => put_element(&mut text, line, 1)?,
         "function" => put_function(&mut text, line)?,
         "permute" => put_permuted(&mut text, line)?,
+        "text" => {
+            let value = InitValue::Text(field(line, 3));
+            put_init(&mut text, number(field(line, 2)), value)?
+        }
+        "number" => {
+            let value = InitValue::Int(number(field(line, 3)));
+            put_init(&mut text, number(field(line, 2)), value)?
+        }
         _ => text.push_str("no such call")?,
     }
     Ok(text)

@@ -1,6 +1,6 @@
 //! Cases of LUT elements: each line of the file `elements` is an element with its LUT cells, a cell
-//! on its BEL with its element's table, or a table whose inputs change places, and a line for each
-//! tells the plan, the function or the table.
+//! on its BEL with its element's table, a table whose inputs change places, or an INIT property, and
+//! a line for each tells the plan, the function or the table.
 //!
 //! The fields of a case, with bars between, are what it shows, the call, and what the call is
 //! given:
@@ -11,6 +11,8 @@
 //!   `1` or `-`, the constant that holds it
 //! - `permute | table | inputs | places`: a table, the number of its inputs, and the new place of
 //!   each
+//! - `text | inputs | INIT` and `number | inputs | INIT`: an INIT property of a LUT with so many
+//!   inputs, a text or a number
 //!
 //! A BEL is `low:line,line,..`, a cell `BEL:table:net,net,..`, where a net is `gnd`, `vcc` or a
 //! number. Tables are hexadecimal. `element*n` makes the plan so many times, so that it can be

@@ -117,15 +117,14 @@ fn check_other_places(rt: &impl Abort, alloc: Global) -> Result<(), Fail> {
 }
 
 /// The lines of faults of the shelf.
-fn check_faults(rt: &impl Abort, alloc: Global) -> Result<(), Fail> {
-    let read = Report::ReadFault {
-        file: word(alloc, "d")?,
-    };
-    check_line(rt, alloc, &read, "read fault: d")?;
-    let write = Report::WriteFault {
-        file: word(alloc, "a b")?,
-    };
-    check_line(rt, alloc, &write, "write fault: a b")
+fn check_read_fault(rt: &impl Abort, alloc: Global, file: &str, text: &str) -> Result<(), Fail> {
+    let file = word(alloc, file)?;
+    check_line(rt, alloc, &Report::ReadFault { file }, text)
+}
+
+fn check_write_fault(rt: &impl Abort, alloc: Global, file: &str, text: &str) -> Result<(), Fail> {
+    let file = word(alloc, file)?;
+    check_line(rt, alloc, &Report::WriteFault { file }, text)
 }
 
 fn check_roots(rt: &impl Abort, alloc: Global, roots: &[(u16, u16, &str)]) -> Result<(), Fail> {
@@ -171,7 +170,8 @@ fn lines(rt: HostRuntime) -> Result<(), Fail> {
     check_numbered_places(&rt, alloc)?;
     check_named_places(&rt, alloc)?;
     check_other_places(&rt, alloc)?;
-    check_faults(&rt, alloc)?;
+    check_read_fault(&rt, alloc, "d", "read fault: d")?;
+    check_write_fault(&rt, alloc, "a b", "write fault: a b")?;
     check_line(&rt, alloc, &Report::Usage, "bad words")?;
     check_line(&rt, alloc, &Report::OutOfMemory, "out of memory")?;
     check_done(&rt, alloc)

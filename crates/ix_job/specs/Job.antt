@@ -49,6 +49,7 @@ pub record HasOutcome (is_outcome : List Content → Outcome
     → Type 0) (job : Job) (told : Option Files) : Type 0 where
   pub contents : List Content
   pub outcome : Outcome
+  pub count : length contents ≡ length job.inputs
   pub read : (files : Files) → told ≡ Some files → AreContents files job.inputs contents
   pub is : is_outcome contents outcome
 

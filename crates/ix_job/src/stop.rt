@@ -1,6 +1,6 @@
 //! Steps that refuse.
 
-ghost use Rattle.std.specs.Prelude.{◌≡◌, [], IfOk};
+ghost use Rattle.std.specs.Prelude.{◌≡◌, [], IfOk, IfErr};
 ghost use Rattle.ix_job.specs.declared.stop.Stop.TheVariants.{Memory as NoMemory};
 
 use crate::work::Outcome;
@@ -39,6 +39,7 @@ impl From<AllocError> for Stop {
 pub fn refused(alloc: Global, stop: Stop) -> Result<Outcome, Memory>
     ensures refused { IfOk result (λ outcome. stop ≡ Stop.Refused outcome.report) }
     ensures nothing { IfOk result (λ outcome. outcome.outputs ≡ []) }
+    ensures memory { IfErr result (λ _. stop ≡ NoMemory) }
 {
     match stop {
         Stop::Refused(report) => Ok(Outcome {

@@ -1,4 +1,4 @@
-use Rattle.std.proofs.Common.{subst, map, rules, arith, Err}
+use Rattle.std.proofs.Common.{◌∙◌, sym, subst, map, rules, arith, Err}
 use Rattle.std.proofs.lemmas.List.{length-map}
 use Rattle.std.proofs.lemmas.Option.{slice_get_within}
 use Rattle.ix_job.specs.Views.{content_seen}
@@ -26,6 +26,7 @@ returns-in-Err-Memory-clause-run g c =
 pub returns-in-Ok-prepare-clause-run : goal.returns-in-Ok-prepare-clause-run
 returns-in-Ok-prepare-clause-run g c =
     finished_run _ _ _ _ _ _ _ (map content_seen c.in-Ok.contents) c.in-Ok-prepare.ready c.finish.result (search rules) (search rules)
+    (length-map c.in-Ok.contents content_seen ∙ c.in-Ok.ensures.count ∙ sym (length-map c.args.inputs.now (λ name. name.now)))
     c.in-Ok.ensures.read c.in-Ok-prepare.ensures
     record {
       read = still_counts _ _ _ c.read_inputs.ensures.read_faults c.finish.ensures.read_faults;

@@ -1,6 +1,6 @@
 //! Cases of LUT elements: each line of the file `elements` is an element with its LUT cells, a cell
-//! on its BEL with its element's table, a table whose inputs change places, or an INIT property, and
-//! a line for each tells the plan, the function or the table.
+//! on its BEL with its element's table, a table whose inputs change places, or an INIT property,
+//! and a line for each tells the plan, the function or the table.
 //!
 //! The fields of a case, with bars between, are what it shows, the call, and what the call is
 //! given:

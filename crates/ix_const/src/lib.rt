@@ -1,8 +1,0 @@
-//! Constants: the nodes that carry one, and the cell types that stand for one.
-#![tactic(auto)]
-
-mod cells;
-mod nodes;
-
-pub use cells::is_const_cell;
-pub use nodes::const_nodes;

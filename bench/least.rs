@@ -1,18 +1,17 @@
-//! Searches a grid of 1,000 x 1,000 points with a wall around by Dijkstra's algorithm over `std::collections::BinaryHeap`, in
-//! plain Rust: the measure for the speed of `ix_least::Search`. Labels take 24 bytes a point, are kept from one search to the
-//! next and told apart by the search's number; ties go to the least edge number.
+//! Searches a grid by Dijkstra's algorithm over `std::collections::BinaryHeap`, in plain Rust: the measure for the speed of
+//! `ix_least::Search`. Labels take 24 bytes a point, are kept from one search to the next and told apart by the search's
+//! number; ties go to the least edge number.
 //!
-//! usage: least
+//! usage: least <KINDS_AND_GRID
+//!        least grid MOST >GRID
 //!
-//! For each kind of search it prints how many there were, how long they took in microseconds, a number folded from the edges
-//! of the paths in their order, and how many points were settled.
+//! What it reads is what the program `ix_least_cases` reads, and so are the lines, but for the number of points that were
+//! settled. With the word `grid` it writes a grid of 1,000 x 1,000 points with a wall around, whose costs go up to MOST.
 
 use std::cmp::Reverse;
 use std::collections::BinaryHeap;
+use std::io::Read;
 use std::time::Instant;
-
-const WIDTH: u32 = 1002;
-const POINTS: u32 = WIDTH * WIDTH;
 
 #[derive(Clone, Copy)]
 struct Label {
@@ -25,41 +24,91 @@ struct Label {
 
 const _: () = assert!(size_of::<Label>() == 24);
 
-struct Search {
+/// A grid, row by row: what each point costs to enter, and 0 where it may not be entered.
+struct Grid {
+    width: u32,
+    cells: Vec<u8>,
+}
+
+impl Grid {
+    fn points(&self) -> u32 {
+        self.cells.len() as u32
+    }
+
+    fn edge(&self, p: u32, i: u32) -> (u32, u32) {
+        let last = self.points() - 1;
+        match i {
+            0 => (4 * p, (p + 1).min(last)),
+            1 => (4 * p + 1, p.saturating_sub(1)),
+            2 => (4 * p + 2, (p + self.width).min(last)),
+            _ => (4 * p + 3, p.saturating_sub(self.width)),
+        }
+    }
+
+    fn cost(&self, p: u32) -> Option<u64> {
+        match self.cells.get(p as usize) {
+            Some(&cost) if cost > 0 => Some(u64::from(cost)),
+            _ => None,
+        }
+    }
+
+    fn distances(&self, target: u32) -> Vec<u64> {
+        let w = self.width;
+        (0..self.points()).map(|p| u64::from((p / w).abs_diff(target / w) + (p % w).abs_diff(target % w))).collect()
+    }
+}
+
+/// A queue of points: by their cost, or by it and the bound on the way that is left.
+trait Queue: Default {
+    fn clear(&mut self);
+    fn push(&mut self, dist: u64, point: u32, bounds: &[u64]);
+    fn pop(&mut self) -> Option<u32>;
+}
+
+#[derive(Default)]
+struct Near(BinaryHeap<Reverse<(u64, u32)>>);
+
+impl Queue for Near {
+    fn clear(&mut self) {
+        self.0.clear();
+    }
+
+    fn push(&mut self, dist: u64, point: u32, _bounds: &[u64]) {
+        self.0.push(Reverse((dist, point)));
+    }
+
+    fn pop(&mut self) -> Option<u32> {
+        self.0.pop().map(|Reverse((_, point))| point)
+    }
+}
+
+#[derive(Default)]
+struct Keyed(BinaryHeap<Reverse<(u64, u64, u32)>>);
+
+impl Queue for Keyed {
+    fn clear(&mut self) {
+        self.0.clear();
+    }
+
+    fn push(&mut self, dist: u64, point: u32, bounds: &[u64]) {
+        self.0.push(Reverse((dist + bounds[point as usize], dist, point)));
+    }
+
+    fn pop(&mut self) -> Option<u32> {
+        self.0.pop().map(|Reverse((_, _, point))| point)
+    }
+}
+
+struct Labels {
     labels: Vec<Label>,
     number: u32,
-    queue: BinaryHeap<Reverse<(u64, u32)>>,
-    bounded: BinaryHeap<Reverse<(u64, u64, u32)>>,
     settled: u64,
 }
 
-fn edge(p: u32, i: u32) -> (u32, u32) {
-    let last = POINTS - 1;
-    match i {
-        0 => (4 * p, (p + 1).min(last)),
-        1 => (4 * p + 1, p.saturating_sub(1)),
-        2 => (4 * p + 2, (p + WIDTH).min(last)),
-        _ => (4 * p + 3, p.saturating_sub(WIDTH)),
-    }
-}
-
-fn cost(cells: &[u8], p: u32) -> Option<u64> {
-    match cells.get(p as usize) {
-        Some(&cost) if cost > 0 => Some(u64::from(cost)),
-        _ => None,
-    }
-}
-
-impl Search {
-    fn new() -> Search {
+impl Labels {
+    fn new(points: u32) -> Labels {
         let blank = Label { dist: 0, search: 0, edge: 0, from: 0, settled: false };
-        Search {
-            labels: vec![blank; POINTS as usize],
-            number: 0,
-            queue: BinaryHeap::new(),
-            bounded: BinaryHeap::new(),
-            settled: 0,
-        }
+        Labels { labels: vec![blank; points as usize], number: 0, settled: 0 }
     }
 
     /// Whether the label is better than the point's own in cost; a tie by a lower edge is written at once.
@@ -91,50 +140,27 @@ impl Search {
         Some(label.dist)
     }
 
-    fn find(&mut self, cells: &[u8], source: u32, target: u32) -> Option<Vec<(u32, u32)>> {
+    fn find<Q: Queue>(&mut self, queue: &mut Q, grid: &Grid, bounds: &[u64], source: u32, target: u32) -> bool {
         self.number += 1;
-        self.queue.clear();
+        queue.clear();
         self.offer(source, 0, 0, source);
-        self.queue.push(Reverse((0, source)));
-        while let Some(Reverse((_, point))) = self.queue.pop() {
+        queue.push(0, source, bounds);
+        while let Some(point) = queue.pop() {
             if point == target {
-                return Some(self.trace(target));
+                return true;
             }
             if let Some(dist) = self.settle(point) {
                 for i in 0..4 {
-                    let (edge, to) = edge(point, i);
-                    if let Some(cost) = cost(cells, to)
+                    let (edge, to) = grid.edge(point, i);
+                    if let Some(cost) = grid.cost(to)
                         && self.offer(to, dist + cost, edge, point)
                     {
-                        self.queue.push(Reverse((dist + cost, to)));
+                        queue.push(dist + cost, to, bounds);
                     }
                 }
             }
         }
-        None
-    }
-
-    fn find_bounded(&mut self, cells: &[u8], bounds: &[u64], source: u32, target: u32) -> Option<Vec<(u32, u32)>> {
-        self.number += 1;
-        self.bounded.clear();
-        self.offer(source, 0, 0, source);
-        self.bounded.push(Reverse((bounds[source as usize], 0, source)));
-        while let Some(Reverse((_, _, point))) = self.bounded.pop() {
-            if point == target {
-                return Some(self.trace(target));
-            }
-            if let Some(dist) = self.settle(point) {
-                for i in 0..4 {
-                    let (edge, to) = edge(point, i);
-                    if let Some(cost) = cost(cells, to)
-                        && self.offer(to, dist + cost, edge, point)
-                    {
-                        self.bounded.push(Reverse((dist + cost + bounds[to as usize], dist + cost, to)));
-                    }
-                }
-            }
-        }
-        None
+        false
     }
 
     fn trace(&self, target: u32) -> Vec<(u32, u32)> {
@@ -159,62 +185,73 @@ impl Draw {
         ((self.0 >> 33) % u64::from(n)) as u32
     }
 
-    fn pair(&mut self, reach: u32, down: u32) -> (u32, u32) {
-        let (x, y) = (self.below(1000), self.below(1000));
-        let (dx, dy) = (self.below(reach), self.below(down));
-        let point = |x: u32, y: u32| (y + 1) * WIDTH + x + 1;
-        (point(x, y), point((x + dx).min(999), (y + dy).min(999)))
+    fn pair(&mut self, grid: &Grid, columns: u32, rows: u32) -> (u32, u32) {
+        let (wide, high) = (grid.width - 2, grid.points() / grid.width - 2);
+        let (x, y) = (self.below(wide), self.below(high));
+        let (dx, dy) = (self.below(columns), self.below(rows));
+        let point = |x: u32, y: u32| (y + 1) * grid.width + x + 1;
+        (point(x, y), point((x + dx).min(wide - 1), (y + dy).min(high - 1)))
     }
 }
 
-fn cells(most: u32) -> Vec<u8> {
+fn write_grid(most: u32) {
     let mut draw = Draw(1);
-    (0..POINTS)
-        .map(|p| {
-            let number = draw.below(most);
-            let (row, column) = (p / WIDTH, p % WIDTH);
-            if row > 0 && column > 0 && row < 1001 && column < 1001 { (number + 1) as u8 } else { 0 }
-        })
-        .collect()
+    for row in 0..1002 {
+        let mut line = String::new();
+        for column in 0..1002 {
+            let number = draw.below(most) + 1;
+            let inside = row > 0 && column > 0 && row < 1001 && column < 1001;
+            line += &(if inside { number } else { 0 }).to_string();
+        }
+        println!("{line}");
+    }
 }
 
-fn distances(target: u32) -> Vec<u64> {
-    (0..POINTS)
-        .map(|p| u64::from((p / WIDTH).abs_diff(target / WIDTH) + (p % WIDTH).abs_diff(target % WIDTH)))
-        .collect()
+/// The kinds of searches, and the grid.
+fn read() -> (Vec<String>, Grid) {
+    let mut text = String::new();
+    std::io::stdin().read_to_string(&mut text).expect("a grid");
+    let (kinds, rows): (Vec<&str>, Vec<&str>) = text.lines().partition(|line| line.contains(':'));
+    let width = rows.first().map_or(0, |row| row.len()) as u32;
+    let cells = rows.iter().flat_map(|row| row.bytes()).map(|digit| digit - b'0').collect();
+    (kinds.iter().map(|kind| kind.to_string()).collect(), Grid { width, cells })
 }
 
-fn run(search: &mut Search, cells: &[u8], count: u32, (reach, down): (u32, u32), bounded: bool, name: &str) {
+/// Makes the searches of a kind, and prints their line.
+fn run(labels: &mut Labels, near: &mut Near, keyed: &mut Keyed, grid: &Grid, word: &str) {
+    let parts: Vec<&str> = word.split(':').collect();
+    let number = |i: usize| parts[i].parse::<u32>().expect("a number");
+    let bounded = parts.get(3) == Some(&"bounded");
     let mut draw = Draw(7);
-    let (mut fold, mut nanos) = (0u64, 0);
-    search.settled = 0;
-    for _ in 0..count {
-        let (source, target) = draw.pair(reach, down);
-        let bounds = if bounded { distances(target) } else { Vec::new() };
+    let (mut fold, mut nanos, mut paths) = (0u64, 0, 0);
+    labels.settled = 0;
+    for _ in 0..number(0) {
+        let (source, target) = draw.pair(grid, number(1), number(2));
+        let bounds = if bounded { grid.distances(target) } else { Vec::new() };
         let start = Instant::now();
         let found = if bounded {
-            search.find_bounded(cells, &bounds, source, target)
+            labels.find(keyed, grid, &bounds, source, target)
         } else {
-            search.find(cells, source, target)
+            labels.find(near, grid, &bounds, source, target)
         };
+        let path = if found { Some(labels.trace(target)) } else { None };
         nanos += start.elapsed().as_nanos();
-        for (edge, _) in found.into_iter().flatten() {
+        paths += u32::from(path.is_some());
+        for (edge, _) in path.into_iter().flatten() {
             fold = fold.wrapping_mul(31).wrapping_add(u64::from(edge)).wrapping_add(1);
         }
     }
-    println!("{name}: {count} searches, {} us, fold {fold}, settled {}", nanos / 1000, search.settled);
+    println!("{} us, {paths} paths, fold {fold}, settled {}", nanos / 1000, labels.settled);
 }
 
 fn main() {
-    let (mixed, open) = (cells(8), cells(1));
-    let mut search = Search::new();
-    let (far, near, row) = ((1000, 1000), (8, 8), (1000, 1));
-    run(&mut search, &mixed, 2, far, false, "warm");
-    run(&mut search, &mixed, 10, far, false, "far");
-    run(&mut search, &mixed, 10000, near, false, "near");
-    run(&mut search, &open, 4, far, false, "open");
-    run(&mut search, &open, 4, far, true, "open bounded");
-    run(&mut search, &open, 4, row, false, "open row");
-    run(&mut search, &open, 4, row, true, "open row bounded");
-    run(&mut search, &mixed, 4, far, true, "mixed bounded");
+    let mut words = std::env::args().skip(1);
+    if words.next().is_some_and(|word| word == "grid") {
+        return write_grid(words.next().and_then(|most| most.parse().ok()).expect("a cost"));
+    }
+    let (kinds, grid) = read();
+    let (mut labels, mut near, mut keyed) = (Labels::new(grid.points()), Near::default(), Keyed::default());
+    for kind in &kinds {
+        run(&mut labels, &mut near, &mut keyed, &grid, kind);
+    }
 }

@@ -1,6 +1,7 @@
 //! Bounds, and whether they are consistent.
 
-ghost use Rattle.std.specs.Prelude.{◌≡◌, ℕ, ◌+◌, ◌<◌, ◌≤◌, List, Contains, IsTrue, Some, slice_index};
+ghost use Rattle.std.specs.Prelude.{◌≡◌, ℕ, ◌+◌, ◌<◌, ◌≤◌, List, Contains, IsTrue, Some};
+ghost use Rattle.std.specs.Prelude.{slice_index};
 ghost use Rattle.ix_least.specs.Walks.{AreConsistent, asked};
 
 use ix_least::{Bounds, Costs, Edges};
@@ -29,7 +30,9 @@ pub(crate) fn are_consistent<E: Edges, C: Costs, B: Bounds>(
     bounds: &B,
     target: u32,
 ) -> bool
-    ensures { IsTrue result → (sources : List ℕ) → AreConsistent (asked (E.point_count edges.now) (E.edges_out edges.now) (C.cost_at costs.now) sources) (B.bound_at bounds.now) target }
+    ensures { IsTrue result → (sources : List ℕ) →
+        AreConsistent (asked (E.point_count edges.now) (E.edges_out edges.now)
+        (C.cost_at costs.now) sources) (B.bound_at bounds.now) target }
 {
     if bounds.least(target) != 0 {
         return false;
@@ -45,7 +48,9 @@ pub(crate) fn are_consistent<E: Edges, C: Costs, B: Bounds>(
 // Whether no step from the point falls by more than it costs.
 fn is_consistent_at<E: Edges, C: Costs, B: Bounds>(edges: &E, costs: &C, bounds: &B, p: u32) -> bool
     requires { p < E.point_count edges.now }
-    ensures { IsTrue result → (edge to cost : ℕ) → Contains (E.edges_out edges.now p) (edge, to) → C.cost_at costs.now to ≡ Some cost → B.bound_at bounds.now p ≤ cost + B.bound_at bounds.now to }
+    ensures { IsTrue result → (edge to cost : ℕ) → Contains (E.edges_out edges.now p) (edge, to) →
+        C.cost_at costs.now to ≡ Some cost →
+        B.bound_at bounds.now p ≤ cost + B.bound_at bounds.now to }
 {
     for i in 0..edges.degree(p) {
         let (_, to) = edges.edge(p, i);

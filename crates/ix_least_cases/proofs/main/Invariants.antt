@@ -1,5 +1,8 @@
 use Rattle.std.proofs.Common.{◌≡◌}
 use Rattle.ix_least_cases.proofs.main.Given as goal
 
+abbrev pub invariant-loop-kind : goal.invariant-loop-kind
+invariant-loop-kind l = l.search ≡ l.points
+
 abbrev pub invariant-loop-source : goal.invariant-loop-source
 invariant-loop-source l = l.search ≡ l.points

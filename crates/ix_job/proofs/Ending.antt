@@ -1,12 +1,12 @@
 -- From what the steps come to to how the run ends.
-use Rattle.std.proofs.Common.{◌≡◌, refl, sym, ap, subst, ◌∙◌, ℕ, inl, inr, List, take, Option, Some, option_map, slice_get, Result, Ok, Err}
+use Rattle.std.proofs.Common.{◌≡◌, refl, sym, ap, subst, ◌∙◌, ℕ, inl, inr, List, length, take, Option, Some, option_map, slice_get, Result, Ok, Err}
 use Rattle.std.proofs.lemmas.Option.{same_Some}
 use Rattle.ix_shelf.specs.Shelf.{Files, Counts, Rose, LeavesPrefix}
 use Rattle.ix_report.specs.declared.report.Report.{Report}
 use Rattle.ix_report.specs.declared.report.Report.TheVariants as a_report
 use Rattle.ix_job.specs.declared.run.Ready.{Ready}
 use Rattle.ix_job.specs.Outside.{Outside, KeepsCounts, IsTold, Tells, stands}
-use Rattle.ix_job.specs.Job.{Name, Job, Content, Outcome, AreContents, HasOutcome, with_files, IsEnding, RunsJob}
+use Rattle.ix_job.specs.Job.{Name, Job, Content, Outcome, AreContents, HasOutputs, HasOutcome, with_files, IsEnding, RunsJob}
 use Rattle.ix_job.specs.Steps.{IsUnreadAt, IsMadeOf, TellsEither, Finishes}
 
 -- a run that ended, and told of it
@@ -46,13 +46,17 @@ unread_run is_outcome job before after place name r n u same write k (inr t) = s
 
 -- what was made has the outcome
 abbrev has_outcome : (is_outcome : List Content → Outcome → Type 0) (job : Job) (told : Option Files) (contents : List Content) (r : Ready)
-    → ((files : Files) → told ≡ Some files → AreContents files job.inputs contents) → IsMadeOf is_outcome contents job.outputs r → HasOutcome is_outcome job told
-has_outcome is_outcome job told contents r read made = record {
+    → length contents ≡ length job.inputs → ((files : Files) → told ≡ Some files → AreContents files job.inputs contents)
+    → IsMadeOf is_outcome contents (length job.outputs) job.outputs r → HasOutcome is_outcome job told
+has_outcome is_outcome job told contents r count read made = record {
   contents = contents;
   outcome = record { report = r.done.report; outputs = r.outputs };
+  count = count;
   read = read;
   is = subst (λ (x : Report). is_outcome contents record { report = x; outputs = r.outputs }) (sym made.report)
       (subst (λ (x : List (List ℕ)). is_outcome contents record { report = made.outcome.report; outputs = x }) (sym made.outputs_are) made.is);
+  has_outputs = subst (λ (x : Report). HasOutputs (length job.outputs) record { report = x; outputs = r.outputs }) (sym made.report)
+      (subst (λ (x : List (List ℕ)). HasOutputs (length job.outputs) record { report = made.outcome.report; outputs = x }) (sym made.outputs_are) made.has_outputs);
 }
 
 -- the outside once the inputs were read
@@ -61,19 +65,20 @@ once_read before files reads writes = record { files = files; read_faults = read
 
 pub finished_run : {E : Type 0} (is_outcome : List Content → Outcome → Type 0) (job : Job) (before after : Outside) (files : Option Files) (reads writes : Counts)
     (contents : List Content) (made : Ready) (r : Result Report E) → files ≡ before.files → writes ≡ before.write_faults
-    → ((files : Files) → before.files ≡ Some files → AreContents files job.inputs contents) → IsMadeOf is_outcome contents job.outputs made
+    → length contents ≡ length job.inputs → ((files : Files) → before.files ≡ Some files → AreContents files job.inputs contents)
+    → IsMadeOf is_outcome contents (length job.outputs) job.outputs made
     → KeepsCounts before after → Finishes made job.outputs (once_read before files reads writes) after r → RunsJob is_outcome job before after r
-finished_run is_outcome job before after files reads writes contents made r same write read m k (inl whole) =
+finished_run is_outcome job before after files reads writes contents made r same write count read m k (inl whole) =
     runs is_outcome job before after made.done.report r (inl record {
-      has = has_outcome is_outcome job before.files contents made read m;
+      has = has_outcome is_outcome job before.files contents made count read m;
       written = whole.written ∙ ap (option_map (with_files job.outputs made.outputs)) same;
       untried = λ none. whole.untried none ∙ write;
       report_is = refl;
     }) k whole.told
-finished_run is_outcome job before after files reads writes contents made r same write read m k (inr cut) =
+finished_run is_outcome job before after files reads writes contents made r same write count read m k (inr cut) =
     let c = cut.cut in
     runs is_outcome job before after (a_report.WriteFault c.name) r (inr (inr (inl record {
-      has = has_outcome is_outcome job before.files contents made read m;
+      has = has_outcome is_outcome job before.files contents made count read m;
       place = cut.place;
       name = c.name;
       bytes = c.bytes;

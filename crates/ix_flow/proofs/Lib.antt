@@ -1,3 +1,4 @@
 pub mod Ending
+pub mod Outputs
 pub mod Answering
 pub mod MoreNames

@@ -6,7 +6,7 @@ use Rattle.ix_report.specs.declared.report.Report.{Report}
 use Rattle.ix_report.specs.declared.report.Report.TheVariants as a_report
 use Rattle.ix_job.specs.declared.run.Ready.{Ready}
 use Rattle.ix_job.specs.Outside.{Outside, KeepsCounts, IsTold, Tells, stands}
-use Rattle.ix_job.specs.Job.{Name, Job, Content, Outcome, AreContents, HasOutcome, with_files, IsEnding, RunsJob}
+use Rattle.ix_job.specs.Job.{Name, Job, Content, Outcome, AreContents, HasOutputs, HasOutcome, with_files, IsEnding, RunsJob}
 use Rattle.ix_job.specs.Steps.{IsUnreadAt, IsMadeOf, TellsEither, Finishes}
 
 -- a run that ended, and told of it
@@ -46,7 +46,8 @@ unread_run is_outcome job before after place name r n u same write k (inr t) = s
 
 -- what was made has the outcome
 abbrev has_outcome : (is_outcome : List Content → Outcome → Type 0) (job : Job) (told : Option Files) (contents : List Content) (r : Ready)
-    → length contents ≡ length job.inputs → ((files : Files) → told ≡ Some files → AreContents files job.inputs contents) → IsMadeOf is_outcome contents job.outputs r → HasOutcome is_outcome job told
+    → length contents ≡ length job.inputs → ((files : Files) → told ≡ Some files → AreContents files job.inputs contents)
+    → IsMadeOf is_outcome contents (length job.outputs) job.outputs r → HasOutcome is_outcome job told
 has_outcome is_outcome job told contents r count read made = record {
   contents = contents;
   outcome = record { report = r.done.report; outputs = r.outputs };
@@ -54,6 +55,8 @@ has_outcome is_outcome job told contents r count read made = record {
   read = read;
   is = subst (λ (x : Report). is_outcome contents record { report = x; outputs = r.outputs }) (sym made.report)
       (subst (λ (x : List (List ℕ)). is_outcome contents record { report = made.outcome.report; outputs = x }) (sym made.outputs_are) made.is);
+  has_outputs = subst (λ (x : Report). HasOutputs (length job.outputs) record { report = x; outputs = r.outputs }) (sym made.report)
+      (subst (λ (x : List (List ℕ)). HasOutputs (length job.outputs) record { report = made.outcome.report; outputs = x }) (sym made.outputs_are) made.has_outputs);
 }
 
 -- the outside once the inputs were read
@@ -62,7 +65,8 @@ once_read before files reads writes = record { files = files; read_faults = read
 
 pub finished_run : {E : Type 0} (is_outcome : List Content → Outcome → Type 0) (job : Job) (before after : Outside) (files : Option Files) (reads writes : Counts)
     (contents : List Content) (made : Ready) (r : Result Report E) → files ≡ before.files → writes ≡ before.write_faults
-    → length contents ≡ length job.inputs → ((files : Files) → before.files ≡ Some files → AreContents files job.inputs contents) → IsMadeOf is_outcome contents job.outputs made
+    → length contents ≡ length job.inputs → ((files : Files) → before.files ≡ Some files → AreContents files job.inputs contents)
+    → IsMadeOf is_outcome contents (length job.outputs) job.outputs made
     → KeepsCounts before after → Finishes made job.outputs (once_read before files reads writes) after r → RunsJob is_outcome job before after r
 finished_run is_outcome job before after files reads writes contents made r same write count read m k (inl whole) =
     runs is_outcome job before after made.done.report r (inl record {

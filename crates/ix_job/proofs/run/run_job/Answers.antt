@@ -1,8 +1,8 @@
-use Rattle.std.proofs.Common.{◌∙◌, sym, subst, map, rules, arith, Err}
+use Rattle.std.proofs.Common.{◌≡◌, ◌∙◌, sym, subst, map, length, rules, arith, Err}
 use Rattle.std.proofs.lemmas.List.{length-map}
 use Rattle.std.proofs.lemmas.Option.{slice_get_within}
 use Rattle.ix_job.specs.Views.{content_seen}
-use Rattle.ix_job.specs.Steps.{AreRead}
+use Rattle.ix_job.specs.Steps.{AreRead, IsMadeOf}
 use Rattle.ix_job.proofs.Setting.{text_at, same_counts, still_counts, falls_later}
 use Rattle.ix_job.proofs.Ending.{unread_run, starved_run, finished_run}
 use Rattle.ix_job.proofs.Complete.{completes}
@@ -25,9 +25,12 @@ returns-in-Err-Memory-clause-run g c =
 
 pub returns-in-Ok-prepare-clause-run : goal.returns-in-Ok-prepare-clause-run
 returns-in-Ok-prepare-clause-run g c =
+    let names = map (λ name. name.now) c.args.outputs.now in
+    let as_many : g.W.Work.outputs_count c.args.work.now ≡ length names = sym c.requires.outputs ∙ sym (length-map c.args.outputs.now (λ name. name.now)) in
     finished_run _ _ _ _ _ _ _ (map content_seen c.in-Ok.contents) c.in-Ok-prepare.ready c.finish.result (search rules) (search rules)
     (length-map c.in-Ok.contents content_seen ∙ c.in-Ok.ensures.count ∙ sym (length-map c.args.inputs.now (λ name. name.now)))
-    c.in-Ok.ensures.read c.in-Ok-prepare.ensures
+    c.in-Ok.ensures.read
+    (subst (λ count. IsMadeOf (g.W.Work.is_outcome c.args.work.now) (map content_seen c.in-Ok.contents) count names c.in-Ok-prepare.ready) as_many c.in-Ok-prepare.ensures)
     record {
       read = still_counts _ _ _ c.read_inputs.ensures.read_faults c.finish.ensures.read_faults;
       write = falls_later _ _ _ c.read_inputs.ensures.write_faults c.finish.ensures.write_faults;

@@ -3,7 +3,7 @@
 ghost use Rattle.std.specs.Prelude.{◌≡◌, ◌≤◌, Some, map, string_bytes};
 ghost use Rattle.ix_report.specs.Lines.{line_of};
 ghost use Rattle.ix_job.specs.Outside.{outside, PutsLine};
-ghost use Rattle.ix_flow.specs.Words.{flow_of};
+ghost use Rattle.ix_flow.specs.Words.{flow_in};
 ghost use Rattle.ix_flow.specs.WordsView.{flow_view};
 ghost use Rattle.ix_flow.specs.Run.{IsRun, IsComplete};
 ghost use Rattle.ix_flow.specs.Implements.{IsImplemented};
@@ -60,15 +60,15 @@ fn run_flow<S: Shelf, O: Sink>(
 ///
 /// Memory is taken before the first file is created, and not after.
 pub fn run<S: Shelf, O: Sink>(alloc: Global, words: &[String], shelf: &mut S, out: &mut O) -> Status
-    ensures run { IsRun (flow_of (map string_bytes words.now))
+    ensures run { IsRun (flow_in (map string_bytes words.now))
         (outside S.files S.read_faults S.write_faults O.told O.faults shelf.old out.old)
         (outside S.files S.read_faults S.write_faults O.told O.faults shelf.new out.new) result }
 
     // It follows that where nothing fails the status is that of the answer to the inputs.
-    ensures complete { IsComplete (flow_of (map string_bytes words.now))
+    ensures complete { IsComplete (flow_in (map string_bytes words.now))
         (outside S.files S.read_faults S.write_faults O.told O.faults shelf.old out.old)
         (outside S.files S.read_faults S.write_faults O.told O.faults shelf.new out.new) result }
-    ensures implements { result ≡ Status.Done → IsImplemented (flow_of (map string_bytes words.now))
+    ensures implements { result ≡ Status.Done → IsImplemented (flow_in (map string_bytes words.now))
         (outside S.files S.read_faults S.write_faults O.told O.faults shelf.old out.old)
         (outside S.files S.read_faults S.write_faults O.told O.faults shelf.new out.new) }
 {

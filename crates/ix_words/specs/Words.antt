@@ -65,14 +65,18 @@ option_word word others =
     (others None)
     else alone (option_named word) others
 
--- The tokens of the words after a command, the first word being the value of an option where one
--- waits for it; none where the words break a rule.
+-- The tokens of the words after a command, where `waits` is an option that is still to get its
+-- value; none where the words break a rule.
 unfoldable pub tokens : (waits : Option OptionName) (words : List (List ℕ))
     → Option (List Token)
 tokens None [] = Some []
+-- an option without its value
 tokens (Some option) [] = None
+-- a value in a word of its own doesn't begin with `-`, unless it is `-` alone
 tokens (Some option) (value ∷ words) =
     if is_dashed value then None else after (given option value) (tokens None words)
+-- `--` ends the options; before it a word that begins with `-`, and isn't `-` alone, is an option;
+-- every other word is an operand
 tokens None (word ∷ words) =
     if bytes_eq word (codes "--") then Some (map operand words)
     else if is_dashed word then option_word word (λ waits. tokens waits words)

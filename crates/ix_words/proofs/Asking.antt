@@ -51,21 +51,26 @@ others_pass test option others h = (both (test option) (list_all test others) h)
 -- what passes for all options passes for each
 each_passes : (test : OptionName → Bool) (option : OptionName)
     → list_all test (Seed ∷ Moves ∷ Rounds ∷ Trials ∷ Placed ∷ []) ≡ true → test option ≡ true
-each_passes test Seed h = first_passes test Seed (Moves ∷ Rounds ∷ Trials ∷ Placed ∷ []) h
-each_passes test Moves h = first_passes test Moves (Rounds ∷ Trials ∷ Placed ∷ []) (others_pass test Seed (Moves ∷ Rounds ∷ Trials ∷ Placed ∷ [])
-    h)
-each_passes test Rounds h = first_passes test Rounds (Trials ∷ Placed ∷ []) (others_pass test Moves (Rounds ∷ Trials ∷ Placed ∷ [])
-    (others_pass test Seed (Moves ∷ Rounds ∷ Trials ∷ Placed ∷ [])
-    h))
-each_passes test Trials h = first_passes test Trials (Placed ∷ []) (others_pass test Rounds (Trials ∷ Placed ∷ [])
-    (others_pass test Moves (Rounds ∷ Trials ∷ Placed ∷ [])
-    (others_pass test Seed (Moves ∷ Rounds ∷ Trials ∷ Placed ∷ [])
-    h)))
-each_passes test Placed h = first_passes test Placed ([]) (others_pass test Trials (Placed ∷ [])
-    (others_pass test Rounds (Trials ∷ Placed ∷ [])
-    (others_pass test Moves (Rounds ∷ Trials ∷ Placed ∷ [])
-    (others_pass test Seed (Moves ∷ Rounds ∷ Trials ∷ Placed ∷ [])
-    h))))
+each_passes test Seed h =
+    first_passes test Seed (Moves ∷ Rounds ∷ Trials ∷ Placed ∷ []) h
+each_passes test Moves h =
+    let h1 = others_pass test Seed (Moves ∷ Rounds ∷ Trials ∷ Placed ∷ []) h in
+    first_passes test Moves (Rounds ∷ Trials ∷ Placed ∷ []) h1
+each_passes test Rounds h =
+    let h1 = others_pass test Seed (Moves ∷ Rounds ∷ Trials ∷ Placed ∷ []) h in
+    let h2 = others_pass test Moves (Rounds ∷ Trials ∷ Placed ∷ []) h1 in
+    first_passes test Rounds (Trials ∷ Placed ∷ []) h2
+each_passes test Trials h =
+    let h1 = others_pass test Seed (Moves ∷ Rounds ∷ Trials ∷ Placed ∷ []) h in
+    let h2 = others_pass test Moves (Rounds ∷ Trials ∷ Placed ∷ []) h1 in
+    let h3 = others_pass test Rounds (Trials ∷ Placed ∷ []) h2 in
+    first_passes test Trials (Placed ∷ []) h3
+each_passes test Placed h =
+    let h1 = others_pass test Seed (Moves ∷ Rounds ∷ Trials ∷ Placed ∷ []) h in
+    let h2 = others_pass test Moves (Rounds ∷ Trials ∷ Placed ∷ []) h1 in
+    let h3 = others_pass test Rounds (Trials ∷ Placed ∷ []) h2 in
+    let h4 = others_pass test Trials (Placed ∷ []) h3 in
+    first_passes test Placed ([]) h4
 
 each_once : (command : CommandName) (words : List Token) → fits command words ≡ true → AreOnce words
 each_once command words h option =

@@ -76,7 +76,8 @@ one_operand texts count all text h few =
     record {
       room = length-set texts count text ∙ h.room;
       counted = rw (length-append all (text.now ∷ [])) (omega (arith, counted, few));
-      held = λ k below inside. by_place k below (rw (length-append all (text.now ∷ [])) at inside) is at
+      held = λ k below inside. by_place k below
+          (rw (length-append all (text.now ∷ [])) at inside) is at
           (eq-or-lt_of_le (inside_le k all (rw (length-append all (text.now ∷ [])) at inside)));
     }
   where
@@ -92,7 +93,8 @@ one_operand texts count all text h few =
         let e : k ≡ count = omega (arith, at, f) in
         let room : count < length (map bytes texts)
         = rw (length-map texts bytes) (rw h.room (omega (arith, below, e))) in
-        ap (λ ts. get_or ts k []) is ∙ ap (λ i. get_or (set (map bytes texts) count text.now) i []) e
+        ap (λ ts. get_or ts k []) is
+        ∙ ap (λ i. get_or (set (map bytes texts) count text.now) i []) e
         ∙ get_or-set_same (map bytes texts) count text.now [] room
         ∙ sym (ap (λ i. get_or (all ++ text.now ∷ []) i []) f
         ∙ get_or-append_seam all text.now [] [])
@@ -126,10 +128,12 @@ adds_operand kept texts count text more tokens h = record {
 }
 
 pub adds_seed : (kept : Arguments) (after : Given) (option : OptionName) (value : List ℕ)
-    → option ≡ Seed → ((vs : List (List ℕ)) → AreValues kept.seed vs → AreValues after (vs ++ value ∷ []))
+    → option ≡ Seed
+    → ((vs : List (List ℕ)) → AreValues kept.seed vs → AreValues after (vs ++ value ∷ []))
     → Adds (given option value) kept (record kept { seed = after })
 adds_seed kept after option value e more tokens h =
-    subst (λ named. AreArguments (record kept { seed = after }) (tokens ++ given named value ∷ [])) (sym e)
+    let now : Arguments = record kept { seed = after } in
+    subst (λ named. AreArguments now (tokens ++ given named value ∷ [])) (sym e)
     (record {
       operands = same_operands kept.operands kept.count tokens Seed value h.operands;
       seed = more_values kept.seed after Seed tokens (given Seed value) value refl more h.seed;
@@ -140,10 +144,12 @@ adds_seed kept after option value e more tokens h =
     })
 
 pub adds_moves : (kept : Arguments) (after : Given) (option : OptionName) (value : List ℕ)
-    → option ≡ Moves → ((vs : List (List ℕ)) → AreValues kept.moves vs → AreValues after (vs ++ value ∷ []))
+    → option ≡ Moves
+    → ((vs : List (List ℕ)) → AreValues kept.moves vs → AreValues after (vs ++ value ∷ []))
     → Adds (given option value) kept (record kept { moves = after })
 adds_moves kept after option value e more tokens h =
-    subst (λ named. AreArguments (record kept { moves = after }) (tokens ++ given named value ∷ [])) (sym e)
+    let now : Arguments = record kept { moves = after } in
+    subst (λ named. AreArguments now (tokens ++ given named value ∷ [])) (sym e)
     (record {
       operands = same_operands kept.operands kept.count tokens Moves value h.operands;
       seed = same_values kept.seed Seed tokens (given Moves value) refl h.seed;
@@ -154,43 +160,52 @@ adds_moves kept after option value e more tokens h =
     })
 
 pub adds_rounds : (kept : Arguments) (after : Given) (option : OptionName) (value : List ℕ)
-    → option ≡ Rounds → ((vs : List (List ℕ)) → AreValues kept.rounds vs → AreValues after (vs ++ value ∷ []))
+    → option ≡ Rounds
+    → ((vs : List (List ℕ)) → AreValues kept.rounds vs → AreValues after (vs ++ value ∷ []))
     → Adds (given option value) kept (record kept { rounds = after })
 adds_rounds kept after option value e more tokens h =
-    subst (λ named. AreArguments (record kept { rounds = after }) (tokens ++ given named value ∷ [])) (sym e)
+    let now : Arguments = record kept { rounds = after } in
+    subst (λ named. AreArguments now (tokens ++ given named value ∷ [])) (sym e)
     (record {
       operands = same_operands kept.operands kept.count tokens Rounds value h.operands;
       seed = same_values kept.seed Seed tokens (given Rounds value) refl h.seed;
       moves = same_values kept.moves Moves tokens (given Rounds value) refl h.moves;
-      rounds = more_values kept.rounds after Rounds tokens (given Rounds value) value refl more h.rounds;
+      rounds = more_values kept.rounds after Rounds tokens (given Rounds value) value refl more
+          h.rounds;
       trials = same_values kept.trials Trials tokens (given Rounds value) refl h.trials;
       placed = same_values kept.placed Placed tokens (given Rounds value) refl h.placed;
     })
 
 pub adds_trials : (kept : Arguments) (after : Given) (option : OptionName) (value : List ℕ)
-    → option ≡ Trials → ((vs : List (List ℕ)) → AreValues kept.trials vs → AreValues after (vs ++ value ∷ []))
+    → option ≡ Trials
+    → ((vs : List (List ℕ)) → AreValues kept.trials vs → AreValues after (vs ++ value ∷ []))
     → Adds (given option value) kept (record kept { trials = after })
 adds_trials kept after option value e more tokens h =
-    subst (λ named. AreArguments (record kept { trials = after }) (tokens ++ given named value ∷ [])) (sym e)
+    let now : Arguments = record kept { trials = after } in
+    subst (λ named. AreArguments now (tokens ++ given named value ∷ [])) (sym e)
     (record {
       operands = same_operands kept.operands kept.count tokens Trials value h.operands;
       seed = same_values kept.seed Seed tokens (given Trials value) refl h.seed;
       moves = same_values kept.moves Moves tokens (given Trials value) refl h.moves;
       rounds = same_values kept.rounds Rounds tokens (given Trials value) refl h.rounds;
-      trials = more_values kept.trials after Trials tokens (given Trials value) value refl more h.trials;
+      trials = more_values kept.trials after Trials tokens (given Trials value) value refl more
+          h.trials;
       placed = same_values kept.placed Placed tokens (given Trials value) refl h.placed;
     })
 
 pub adds_placed : (kept : Arguments) (after : Given) (option : OptionName) (value : List ℕ)
-    → option ≡ Placed → ((vs : List (List ℕ)) → AreValues kept.placed vs → AreValues after (vs ++ value ∷ []))
+    → option ≡ Placed
+    → ((vs : List (List ℕ)) → AreValues kept.placed vs → AreValues after (vs ++ value ∷ []))
     → Adds (given option value) kept (record kept { placed = after })
 adds_placed kept after option value e more tokens h =
-    subst (λ named. AreArguments (record kept { placed = after }) (tokens ++ given named value ∷ [])) (sym e)
+    let now : Arguments = record kept { placed = after } in
+    subst (λ named. AreArguments now (tokens ++ given named value ∷ [])) (sym e)
     (record {
       operands = same_operands kept.operands kept.count tokens Placed value h.operands;
       seed = same_values kept.seed Seed tokens (given Placed value) refl h.seed;
       moves = same_values kept.moves Moves tokens (given Placed value) refl h.moves;
       rounds = same_values kept.rounds Rounds tokens (given Placed value) refl h.rounds;
       trials = same_values kept.trials Trials tokens (given Placed value) refl h.trials;
-      placed = more_values kept.placed after Placed tokens (given Placed value) value refl more h.placed;
+      placed = more_values kept.placed after Placed tokens (given Placed value) value refl more
+          h.placed;
     })

@@ -83,7 +83,8 @@ unfolding tokens
 unfinished words next option kept h is = h.2 ∙ ap (λ e. behind h.0 (tokens_from e [])) is
 
 -- at the end all tokens are kept
-pub finished : (words : List (List ℕ)) (next : Expected) (kept : Arguments) → SoFar words [] next kept
+pub finished : (words : List (List ℕ)) (next : Expected) (kept : Arguments)
+    → SoFar words [] next kept
     → (next ≡ expected.Any) ⊎ (next ≡ expected.Operand)
     → (all : List Token) × (tokens None words ≡ Some all) × AreArguments kept all
 unfolding tokens

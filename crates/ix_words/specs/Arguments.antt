@@ -1,7 +1,7 @@
--- What is kept of tokens, for private contracts.
-use Rattle.std.specs.Prelude.{◌≡◌, ℕ, ◌<◌, ◌≤◌, min, List, [], ◌∷◌, ◌++◌, length, map, slice_index_or}
+-- What the code keeps of tokens, for private contracts.
 use Rattle.std.specs.Borrow.{Bor}
-use Rattle.std.specs.Prelude.{Option, Some, None, MatchOption, option_map, Bool}
+use Rattle.std.specs.Prelude.{◌≡◌, ℕ, ◌<◌, ◌≤◌, min, List, [], ◌∷◌, ◌++◌, length, map}
+use Rattle.std.specs.Prelude.{slice_index_or, Option, Some, None, MatchOption, option_map, Bool}
 use Rattle.ix_words.specs.declared.command.Command.{Command}
 use Rattle.ix_words.specs.declared.command.CommandName.{CommandName}
 use Rattle.ix_words.specs.declared.options.OptionName.{OptionName}
@@ -24,8 +24,9 @@ AreValues Again values = 2 ≤ length values
 abbrev pub bytes : Bor (List ℕ) → List ℕ
 bytes text = text.now
 
--- the first four of these operands are kept, and of how many there are whether there are more
-pub record AreOperands (texts : List (Bor (List ℕ))) (count : ℕ) (all : List (List ℕ)) : Type 0 where
+-- the first four of these operands are kept, and how many there are, counted up to five
+pub record AreOperands (texts : List (Bor (List ℕ))) (count : ℕ) (all : List (List ℕ))
+    : Type 0 where
   pub room : length texts ≡ 4
   pub counted : count ≡ min 5 (length all)
   pub held : (k : ℕ) → k < 4 → k < length all
@@ -40,7 +41,7 @@ pub record AreArguments (kept : Arguments) (tokens : List Token) : Type 0 where
   pub trials : AreValues kept.trials (values Trials tokens)
   pub placed : AreValues kept.placed (values Placed tokens)
 
--- the same after a token, whatever tokens stand before it
+-- what is kept is of one token more, whatever tokens stand before it
 abbrev pub Adds : Token → (before after : Arguments) → Type 0
 Adds token before after = (tokens : List Token) → AreArguments before tokens
     → AreArguments after (tokens ++ token ∷ [])
@@ -58,8 +59,8 @@ AreOnce tokens = (option : OptionName) → length (values option tokens) ≤ 1
 abbrev pub Asks : CommandName → Arguments → Option Command → Type 0
 Asks command kept result = (tokens : List Token) → AreArguments kept tokens
     → length (operands tokens) ≡ (shape_of command).operands → AreOnce tokens
-    → option_map command_view result ≡ task_with command (λ k. slice_index_or (operands tokens) k [])
-    (λ option. values option tokens)
+    → option_map command_view result ≡ task_with command
+    (λ k. slice_index_or (operands tokens) k []) (λ option. values option tokens)
 
 -- a text is the operand of this number, where there are so many
 abbrev pub IsOperand : Arguments → (number : ℕ) → (text : List ℕ) → Type 0

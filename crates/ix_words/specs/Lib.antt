@@ -3,7 +3,6 @@ pub mod Numbers
 pub mod Words
 pub mod Tasks
 pub mod Views
+-- For private contracts and proofs.
 pub mod Reading
 pub mod Arguments
-
--- For private contracts and proofs.

@@ -49,7 +49,7 @@ abbrev pub command_named : (word : List ℕ) → Option CommandName
 command_named word = find (λ command. bytes_eq word (shape_of command).name)
     (name.Pack ∷ name.Place ∷ name.Route ∷ name.Check ∷ name.Flow ∷ name.Demo ∷ [])
 
--- the range of an option's number
+-- The range of an option's number. The flag takes none.
 abbrev pub least : OptionName → ℕ
 least Rounds = 1
 least Trials = 1
@@ -88,19 +88,20 @@ most_times command option = if list_any (is_same option) (shape_of command).opti
 
 -- there are as many operands as the command has, and each option stands as often as it may
 abbrev pub fits : CommandName → List Token → Bool
-fits command words =
-    nat_eq (length (operands words)) (shape_of command).operands
-    && list_all (λ option. nat_le (length (values option words)) (most_times command option))
+fits command arguments =
+    nat_eq (length (operands arguments)) (shape_of command).operands
+    && list_all (λ option. nat_le (length (values option arguments)) (most_times command option))
     (Seed ∷ Moves ∷ Rounds ∷ Trials ∷ Placed ∷ [])
 
 -- the number that is given for an option, where it is given
 abbrev pub number_of : OptionName → (values : List (List ℕ)) → Option (Option ℕ)
 number_of option [] = Some None
-number_of option (value ∷ others) = option_map Some (number_in value (least option) (greatest option))
+number_of option (value ∷ others) =
+    option_map Some (number_in value (least option) (greatest option))
 
--- what a command asks for with these operands and values of its options
-abbrev pub task_with : CommandName → (operand_at : ℕ → List ℕ) → (values_of : OptionName → List (List ℕ))
-    → Option Task
+-- what a command asks for with these operands and values of options
+abbrev pub task_with : CommandName → (operand_at : ℕ → List ℕ)
+    → (values_of : OptionName → List (List ℕ)) → Option Task
 task_with name.Pack operand_at values_of = Some (pack (operand_at 0) (operand_at 1) (operand_at 2))
 task_with name.Place operand_at values_of = do
   seed ← number_of Seed (values_of Seed)
@@ -110,7 +111,8 @@ task_with name.Route operand_at values_of = do
   rounds ← number_of Rounds (values_of Rounds)
   Some (route (operand_at 0) (operand_at 1) (operand_at 2) (operand_at 3) rounds)
 task_with name.Check operand_at values_of =
-    Some (check (operand_at 0) (operand_at 1) (operand_at 2) (nat_le 1 (length (values_of Placed))))
+    let is_placed = nat_le 1 (length (values_of Placed)) in
+    Some (check (operand_at 0) (operand_at 1) (operand_at 2) is_placed)
 task_with name.Flow operand_at values_of = do
   seed ← number_of Seed (values_of Seed)
   moves ← number_of Moves (values_of Moves)
@@ -119,12 +121,15 @@ task_with name.Flow operand_at values_of = do
   Some (flow (operand_at 0) (operand_at 1) (operand_at 2) seed moves rounds trials)
 task_with name.Demo operand_at values_of =
     if bytes_eq (operand_at 1) (operand_at 2) then None
-    else option_map (λ size. demo size (operand_at 1) (operand_at 2)) (number_in (operand_at 0) 1 16)
+    else option_map (λ size. demo size (operand_at 1) (operand_at 2))
+    (number_in (operand_at 0) 1 16)
 
+-- what a command asks for with its arguments; none where they don't fit it
 abbrev pub task_of : CommandName → List Token → Option Task
-task_of command words =
-    if fits command words
-    then task_with command (λ k. slice_index_or (operands words) k []) (λ option. values option words)
+task_of command arguments =
+    if fits command arguments
+    then task_with command (λ k. slice_index_or (operands arguments) k [])
+    (λ option. values option arguments)
     else None
 
 -- what all words of a command line ask for; none where they are refused
@@ -132,5 +137,5 @@ unfoldable pub command_of : (words : List (List ℕ)) → Option Task
 command_of [] = None
 command_of (word ∷ words) = do
   command ← command_named word
-  after ← tokens None words
-  task_of command after
+  arguments ← tokens None words
+  task_of command arguments

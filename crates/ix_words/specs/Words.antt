@@ -11,7 +11,7 @@ pub data Token : Type 0 where
   operand : (text : List ℕ) → Token
   given : OptionName → (value : List ℕ) → Token
 
--- begins with `-` and isn't `-` alone
+-- begins with `-`, which is 45, and isn't `-` alone
 abbrev pub is_dashed : (word : List ℕ) → Bool
 is_dashed [] = false
 is_dashed (first ∷ []) = false
@@ -32,7 +32,7 @@ abbrev pub has_value : OptionName → Bool
 has_value Placed = false
 has_value option = true
 
--- 61 is '='
+-- `=`
 abbrev pub is_equals : (byte : ℕ) → Bool
 is_equals byte = byte == 61
 
@@ -40,7 +40,7 @@ is_equals byte = byte == 61
 abbrev pub after : Token → Option (List Token) → Option (List Token)
 after token tokens = option_map (λ others. token ∷ others) tokens
 
--- `--name=VALUE`: the tokens, where these are those of the words after it
+-- `--name=VALUE`: the tokens, where `others` are those of the words after it
 abbrev pub joined : Option OptionName → (value : List ℕ) → (others : Option (List Token))
     → Option (List Token)
 joined None value others = None
@@ -55,8 +55,8 @@ alone None others = None
 alone (Some option) others =
     if has_value option then others (Some option) else after (given option []) (others None)
 
--- A word that is an option: the text before its first `=` is the name, and what stands behind it the
--- value.
+-- A word that is an option: the text before its first `=` is the name, and what stands behind it
+-- the value.
 abbrev pub option_word : (word : List ℕ) (others : Option OptionName → Option (List Token))
     → Option (List Token)
 option_word word others =
@@ -65,13 +65,18 @@ option_word word others =
     (others None)
     else alone (option_named word) others
 
--- The tokens of the words after a command, the first word being the value of an option where one
--- waits for it; none where the words break a rule.
-unfoldable pub tokens : (waits : Option OptionName) (words : List (List ℕ)) → Option (List Token)
+-- The tokens of the words after a command, where `waits` is an option that is still to get its
+-- value; none where the words break a rule.
+unfoldable pub tokens : (waits : Option OptionName) (words : List (List ℕ))
+    → Option (List Token)
 tokens None [] = Some []
+-- an option without its value
 tokens (Some option) [] = None
+-- a value in a word of its own doesn't begin with `-`, unless it is `-` alone
 tokens (Some option) (value ∷ words) =
     if is_dashed value then None else after (given option value) (tokens None words)
+-- `--` ends the options; before it a word that begins with `-`, and isn't `-` alone, is an option;
+-- every other word is an operand
 tokens None (word ∷ words) =
     if bytes_eq word (codes "--") then Some (map operand words)
     else if is_dashed word then option_word word (λ waits. tokens waits words)

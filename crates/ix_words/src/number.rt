@@ -15,8 +15,7 @@ fn value_of(digits: &[u8]) -> Option<u128>
         else None) }
 {
     let mut value: u128 = 0;
-    for i in 0..digits.len() {
-        let digit = digits[i];
+    for &digit in digits {
         if !digit.is_ascii_digit() {
             return None;
         }

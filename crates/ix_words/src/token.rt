@@ -29,6 +29,7 @@ pub(crate) enum Expected {
 /// A word that was read.
 #[derive(Clone, Copy)]
 pub(crate) struct Step<'a> {
+    /// The token that ends with it, if one does.
     pub token: Option<Token<'a>>,
     /// What the word after it is.
     pub expected: Expected,
@@ -57,24 +58,24 @@ fn read_joined<'a>(name: &str, value: &'a str) -> Option<Step<'a>>
 }
 
 // Reads `--name`.
-fn read_alone<'a>(name: &'a str) -> Option<Step<'a>>
+fn read_alone(name: &str) -> Option<Step<'_>>
     ensures { ReadsOption (λ others. alone (option_named name.now) others) result }
 {
     let option = OptionName::named(name)?;
-    Some(if option.has_value() {
-        Step {
+    if option.has_value() {
+        return Some(Step {
             token: None,
             expected: Expected::Value(option),
-        }
-    } else {
-        Step {
-            token: Some(Token::Given(option, "")),
-            expected: Expected::Any,
-        }
+        });
+    }
+    Some(Step {
+        token: Some(Token::Given(option, "")),
+        expected: Expected::Any,
     })
 }
 
-fn read_option<'a>(word: &'a str) -> Option<Step<'a>>
+// Reads a word that begins with `-` and isn't `-` alone: before its first `=` stands a name.
+fn read_option(word: &str) -> Option<Step<'_>>
     ensures { ReadsOption (λ others. option_word word.now others) result }
 {
     match word.split_once('=') {
@@ -85,7 +86,7 @@ fn read_option<'a>(word: &'a str) -> Option<Step<'a>>
 
 /// Reads a word of which this is expected; None where it breaks a rule.
 #[tactic(auto, unfolding(crate::specs::Words::tokens))]
-pub(crate) fn read_word<'a>(expected: Expected, word: &'a str) -> Option<Step<'a>>
+pub(crate) fn read_word(expected: Expected, word: &str) -> Option<Step<'_>>
     ensures { Reads expected word.now result }
 {
     let (token, expected) = match expected {

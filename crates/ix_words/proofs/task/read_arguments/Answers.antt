@@ -14,10 +14,11 @@ returns-in_err-step c =
     let word = c.as_str.result.now in
     let here = word_at string_bytes c.args.words.now c.loop-word.word-index c.word-item.result word
     c.loop-word-test.true c.word-item.is c.as_str.ensures.value in
-    subst (λ (r : Option Arguments). AreArgumentsOf (tokens None words) r) (sym c.from_residual.ensures)
-    (stopped words word others c.loop-word.expected c.loop-word.arguments
-    (subst (λ ws. SoFar words ws c.loop-word.expected c.loop-word.arguments) here c.loop-word.invariant)
-    c.in_err-step.ensures)
+    let before = subst (λ ws. SoFar words ws c.loop-word.expected c.loop-word.arguments) here
+    c.loop-word.invariant in
+    subst (λ (r : Option Arguments). AreArgumentsOf (tokens None words) r)
+    (sym c.from_residual.ensures) (stopped words word others c.loop-word.expected
+    c.loop-word.arguments before c.in_err-step.ensures)
 
 pub loop-word-preserved : goal.loop-word-preserved
 loop-word-preserved c =
@@ -28,15 +29,16 @@ loop-word-preserved c =
     c.loop-word-test.true c.word-item.is c.as_str.ensures.value in
     let before = subst (λ ws. SoFar words ws c.loop-word.expected c.loop-word.arguments) here
     c.loop-word.invariant in
+    let then = c.in_ok-step.step.expected in
     elim c.match-step.branch [
-      | in-Some w ↦ subst (λ (kept : Arguments). SoFar words others c.in_ok-step.step.expected kept)
+      | in-Some w ↦ subst (λ (kept : Arguments). SoFar words others then kept)
           (sym w.arguments-is)
-          (kept_token words word others c.loop-word.expected c.in_ok-step.step.expected c.loop-word.arguments
+          (kept_token words word others c.loop-word.expected then c.loop-word.arguments
           w.add.new.self w.in-Some.token c.in_ok-step.step.token before c.in_ok-step.ensures
           w.in-Some.is w.add.ensures)
-      | in_default w ↦ subst (λ (kept : Arguments). SoFar words others c.in_ok-step.step.expected kept)
+      | in_default w ↦ subst (λ (kept : Arguments). SoFar words others then kept)
           (sym w.arguments-is)
-          (kept_none words word others c.loop-word.expected c.in_ok-step.step.expected c.loop-word.arguments
+          (kept_none words word others c.loop-word.expected then c.loop-word.arguments
           c.in_ok-step.step.token before c.in_ok-step.ensures w.in_default.is)
     ]
 

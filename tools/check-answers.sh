@@ -8,7 +8,7 @@ failed=0
 "$top/tools/lut_cases.py" check || failed=1
 "$top/tools/occupy_cases.py" check || failed=1
 least=$top/crates/ix_least_cases
-if ! "$top/tools/least_cases.py" <"$least/stdin" | cmp -s - "$least/stdout"; then
+if ! "$top/tools/least_cases.py" <"$least/data/grid" | cmp -s - "$least/stdout"; then
     echo "crates/ix_least_cases/stdout isn't what tools/least_cases.py answers"
     failed=1
 fi

@@ -1,6 +1,6 @@
 use Rattle.std.proofs.Common.{◌≡◌, ℕ, ◌+◌, ◌≤◌, Some, Contains, arith, refl}
 use borrow.Author.Count.{below_more}
-use Rattle.ix_least_cases.proofs.bounds.are_consistent.Goals as goal
+use Rattle.ix_grids.proofs.bounds.are_consistent.Goals as goal
 
 pub loop-p-preserved : goal.loop-p-preserved
 loop-p-preserved g c =

@@ -1,14 +1,15 @@
 //! Grids.
 
 ghost use Rattle.std.specs.Prelude.{◌≡◌, ℕ, ◌+◌, ◌*◌, ◌^◌, ◌<◌, ◌≤◌, length, Some, slice_get};
-ghost use Rattle.ix_least_cases.specs.Grid.{grid_edges};
+ghost use Rattle.ix_grids.specs.Grid.{grid_edges};
 
 use ix_least::Edges;
 
 /// A grid of points, row by row. Edges lead from each to the one on the right, on the left, below
-/// and above, and at an end of the grid to its last or first point.
+/// and above, and at an end of the grid to its last or first point. The edges out of point `p` have
+/// the numbers from `4p` to `4p + 3`.
 #[derive(Clone, Copy)]
-pub(crate) struct Grid {
+pub struct Grid {
     width: u32,
     points: u32,
     ghost some: { 0 < points },
@@ -17,21 +18,22 @@ pub(crate) struct Grid {
 }
 
 impl Grid {
-    /// A grid of so many points in each row and so many in all.
-    pub(crate) fn new(width: u32, points: u32) -> Grid
-        requires some { 0 < points }
-        requires few { points ≤ 2 ^ 30 }
-        requires narrow { width ≤ 2 ^ 30 }
-        ensures { result.points ≡ points }
-    {
-        Grid { width, points }
-    }
-
-    /// How many points there are in a row.
-    pub(crate) fn width(&self) -> u32 {
-        self.width
+    /// A grid of so many points in each row and so many in all; `None` where there is no point, or
+    /// where there are more than 2^30.
+    pub fn new(width: usize, points: usize) -> Option<Grid> {
+        if 0 < points && points <= MOST && width <= MOST {
+            Some(Grid {
+                width: width as u32,
+                points: points as u32,
+            })
+        } else {
+            None
+        }
     }
 }
+
+/// The most points of a grid.
+const MOST: usize = 1 << 30;
 
 impl Edges for Grid {
     ghost point_count = { λ g. g.points };

@@ -5,11 +5,12 @@ ghost use Rattle.std.specs.Prelude.{slice_index};
 ghost use Rattle.ix_least.specs.Walks.{AreConsistent, asked};
 
 use ix_least::{Bounds, Costs, Edges};
+use std::alloc::{AllocError, Global};
 
 /// A bound for each point.
 #[derive(Drop)]
-pub(crate) struct Table {
-    pub(crate) bounds: Vec<u64>,
+pub struct Table {
+    bounds: Vec<u64>,
 }
 
 impl Bounds for Table {
@@ -23,8 +24,26 @@ impl Bounds for Table {
     }
 }
 
+/// The distance of each of so many points from the target along rows of this width and columns.
+pub fn distances(
+    alloc: Global,
+    width: usize,
+    points: u32,
+    target: u32,
+) -> Result<Table, AllocError> {
+    let mut bounds = Vec::new(alloc);
+    let width = width.max(1) as u64;
+    let (row, column) = (u64::from(target) / width, u64::from(target) % width);
+    for p in 0..points {
+        let rows = (u64::from(p) / width).abs_diff(row);
+        let columns = (u64::from(p) % width).abs_diff(column);
+        bounds.push(rows.saturating_add(columns))?;
+    }
+    Ok(Table { bounds })
+}
+
 /// Whether the bounds are consistent.
-pub(crate) fn are_consistent<E: Edges, C: Costs, B: Bounds>(
+pub fn are_consistent<E: Edges, C: Costs, B: Bounds>(
     edges: &E,
     costs: &C,
     bounds: &B,

@@ -1,5 +1,5 @@
 use Rattle.std.proofs.Common.{◌≡◌, ℕ, ◌+◌, ◌<◌, ◌≤◌, Some, slice_get}
-use Rattle.ix_least_cases.proofs.bounds.is_consistent_at.Given as goal
+use Rattle.ix_grids.proofs.bounds.is_consistent_at.Given as goal
 
 abbrev pub invariant-loop-i : goal.invariant-loop-i
 invariant-loop-i g l =

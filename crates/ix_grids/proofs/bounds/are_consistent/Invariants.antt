@@ -1,5 +1,5 @@
 use Rattle.std.proofs.Common.{◌≡◌, ℕ, ◌+◌, ◌<◌, ◌≤◌, Contains, Some}
-use Rattle.ix_least_cases.proofs.bounds.are_consistent.Given as goal
+use Rattle.ix_grids.proofs.bounds.are_consistent.Given as goal
 
 abbrev pub invariant-loop-p : goal.invariant-loop-p
 invariant-loop-p g l =

@@ -2,12 +2,14 @@
 """Writes costs of points, and pairs of points to be searched.
 
 usage: make_searches.py costs COLUMNS ROWS MOST [wall] >COSTS
-       make_searches.py pairs COLUMNS ROWS NAME COUNT WIDE HIGH [wall] >>SEARCHES
+       make_searches.py pairs COLUMNS ROWS NAME COUNT WIDE HIGH [WIDTH] [wall] >>SEARCHES
+       make_searches.py pairs_from SOURCES POINTS NAME COUNT >>SEARCHES
 
 Costs are digits from 1 to MOST, a line each row. Each row is drawn by a seed of its own, so smaller grids are corners of
-larger ones. Pairs stand behind their name in a line: so many, drawn from the first COLUMNS and ROWS, the second point at
-most WIDE columns and HIGH rows behind the first. With `wall` a point more stands on each side of the grid, which may not be
-entered; without, ROWS is one of a list of points.
+larger ones. With `wall` a point more stands on each side of the grid, which may not be entered. Pairs stand behind their
+name in a line, so many: with `pairs` from the first COLUMNS and ROWS of a grid of WIDTH columns (COLUMNS), the second point
+less than WIDE columns and HIGH rows behind the first; with `pairs_from` the first below SOURCES, the second not, of so many
+POINTS.
 """
 import random
 import sys
@@ -36,16 +38,24 @@ def pairs(columns, rows, name, count, wide, high, wall, width):
     print(" ".join(words))
 
 
+def pairs_from(sources, points, name, count):
+    draw = random.Random(7)
+    print(" ".join([name, *(f"{draw.randrange(sources)}-{draw.randrange(sources, points)}" for _ in range(count))]))
+
+
 def main():
     kind, *words = sys.argv[1:]
     wall = words[-1] == "wall"
     words = words[:-1] if wall else words
     if kind == "costs":
         costs(*map(int, words), wall)
-    else:
+    elif kind == "pairs":
         columns, rows, name, count, wide, high, *width = words
         width = int(width[0]) if width else int(columns)
         pairs(int(columns), int(rows), name, int(count), int(wide), int(high), wall, width)
+    else:
+        sources, points, name, count = words
+        pairs_from(int(sources), int(points), name, int(count))
 
 
 main()

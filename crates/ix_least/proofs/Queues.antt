@@ -24,11 +24,11 @@ not_less Equal Less c k l d e p q h = cc
 not_less Equal Equal c k l d e p q h = inr (sym p, omega arith)
 not_less Equal Greater c k l d e p q h = inr (sym p, omega arith)
 
-not_less_near : (b c : Ordering) (d e : ℕ) → MatchOrdering b (e < d) (e ≡ d) (d < e) →
-    is_lt (ordering_then b c) ≡ false → (d < e) ⊎ (d ≡ e)
-not_less_near Less c d e q h = cc
-not_less_near Equal c d e q h = inr (sym q)
-not_less_near Greater c d e q h = inl q
+not_less_near : (b : Ordering) (d e : ℕ) → MatchOrdering b (e < d) (e ≡ d) (d < e) →
+    is_lt b ≡ false → (d < e) ⊎ (d ≡ e)
+not_less_near Less d e q h = cc
+not_less_near Equal d e q h = inr (sym q)
+not_less_near Greater d e q h = inl q
 
 -- an entry that isn't less than another comes no later
 pub precedes_from_order : (x y : Entry) → lt_by_cmp entry_cmp x y ≡ false → Precedes x.key x.dist y
@@ -95,8 +95,7 @@ takes_from_pop entry old new heap p g = record {
 near_precedes : (x y : Near) → lt_by_cmp near_cmp x y ≡ false →
     Precedes x.dist x.dist (near_entry y)
 near_precedes x y h =
-    elim (not_less_near (nat_cmp y.dist x.dist) (nat_cmp x.point y.point) x.dist y.dist
-    (ranked y.dist x.dist _ refl) h) [
+    elim (not_less_near (nat_cmp y.dist x.dist) x.dist y.dist (ranked y.dist x.dist _ refl) h) [
       | inl less ↦ inl less
       | inr same ↦
           inr (same, omega arith)

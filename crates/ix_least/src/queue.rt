@@ -1,6 +1,6 @@
 //! Queues of the points that are to be settled.
 
-ghost use Rattle.std.specs.Prelude.{◌≡◌, ℕ, ◌+◌, List, [], length, Contains, OnOk, IfSome, IfNone};
+ghost use Rattle.std.specs.Prelude.{◌≡◌, ℕ, ◌+◌, nat_eq, List, [], length, Contains, OnOk, IfSome, IfNone};
 ghost use Rattle.std.proofs.Common.{rules};
 ghost use Rattle.std.specs.Cmp.{partial_order_from_own_ties};
 ghost use Rattle.std.specs.Cmp.Rules.{comparing};
@@ -54,15 +54,31 @@ impl PartialOrd for Entry {
 }
 
 /// A point that was reached, where its cost is its key. It takes 16 bytes and not 24.
-#[derive(Clone, Copy, PartialEq, Eq)]
+#[derive(Clone, Copy)]
 pub(crate) struct Near {
     pub(crate) dist: u64,
     pub(crate) point: u32,
 }
 
+// Points of one cost are alike: which of them is taken first changes no answer, and each comparison
+// of a heap that asks more costs time.
+impl PartialEq for Near {
+    ghost eq = { on (λ e. e.dist) nat_eq };
+
+    ghost laws = { Prim.search (comparing, rules) };
+
+    fn eq(&self, other: &Near) -> bool {
+        self.dist == other.dist
+    }
+}
+
+impl Eq for Near {
+    ghost laws = { Prim.search (comparing, rules) };
+}
+
 // The greatest is the one with the least cost.
 impl Ord for Near {
-    ghost cmp = { then_cmp (flip_args (on (λ e. e.dist) nat_cmp)) (on (λ e. e.point) nat_cmp) };
+    ghost cmp = { flip_args (on (λ e. e.dist) nat_cmp) };
 
     ghost total = { Prim.search (comparing, rules) };
 
@@ -71,16 +87,12 @@ impl Ord for Near {
     ghost matches_eq = { Prim.search (comparing, rules) };
 
     fn cmp(&self, other: &Near) -> Ordering {
-        other
-            .dist
-            .cmp(&self.dist)
-            .then(self.point.cmp(&other.point))
+        other.dist.cmp(&self.dist)
     }
 }
 
 impl PartialOrd for Near {
-    ghost partial_cmp = { as_partial_cmp (then_cmp (flip_args (on (λ e. e.dist) nat_cmp))
-        (on (λ e. e.point) nat_cmp)) };
+    ghost partial_cmp = { as_partial_cmp (flip_args (on (λ e. e.dist) nat_cmp)) };
 
     ghost laws = { partial_order_from_own_ties (Prim.search (comparing, rules))
         (Prim.search (comparing, rules)) };

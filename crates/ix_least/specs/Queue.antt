@@ -8,7 +8,7 @@ use Rattle.ix_least.specs.declared.queue.Near.{Near}
 -- the order of the heaps
 abbrev pub entry_cmp : Entry → Entry → Ordering
 entry_cmp = then_cmp (flip_args (on (λ e. e.key) nat_cmp))
-    (then_cmp (flip_args (on (λ e. e.dist) nat_cmp)) (on (λ e. e.point) nat_cmp))
+    (flip_args (on (λ e. e.dist) nat_cmp))
 
 abbrev pub near_cmp : Near → Near → Ordering
 near_cmp = flip_args (on (λ e. e.dist) nat_cmp)

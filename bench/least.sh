@@ -11,7 +11,8 @@
 # (9), in three batches. For each kind of searches it tells the median of each batch and how they
 # compare, all runs together, and how many points were settled. The paths must be the same. Then, on
 # corners of growing size of one grid, ten thousand short searches in the least corner. Where
-# valgrind is there the instructions of each kind of searches are counted, too.
+# valgrind is there the instructions of each kind of searches without bounds are counted, too; those
+# with bounds are left out, since the proved program also asks whether the bounds are consistent.
 set -eu
 usage='usage: bench/least.sh SEARCHER GENERATOR [RUNS]'
 searcher=$(realpath "${1:?$usage}")
@@ -32,11 +33,18 @@ done
     make_searches pairs 1000 1000 near 10000 8 8 wall
     make_searches pairs 1000 1000 far:bounded 4 1000 1000 wall
 } >mixed.searches
+point() { # COLUMN ROW: the point of a grid of 1,000 columns inside its wall
+    echo $((($2 + 1) * 1002 + $1 + 1))
+}
+
 {
     make_searches pairs 1000 1000 far 4 1000 1000 wall
     make_searches pairs 1000 1000 far:bounded 4 1000 1000 wall
     make_searches pairs 1000 1000 row 4 1000 1 wall
     make_searches pairs 1000 1000 row:bounded 4 1000 1 wall
+    for kind in oblong oblong:bounded; do
+        echo "$kind $(point 400 400)-$(point 550 450)"
+    done
 } >open.searches
 python3 "$generator" 192 25 device
 # Its nodes are 2,331 lines, from each of which PIPs lead to 5,785 inputs.
@@ -97,10 +105,11 @@ echo
 echo 'instructions of the searches'
 row kind proved plain ratio
 for name in mixed open nodes corner250 corner500 corner1000 corner2000; do
+    grep -v '^[^ ]*:bounded ' $name.searches >free
     while read -r line; do
         echo "$line" >kind
         proved=$(searching $name "$searcher")
         plain=$(searching $name ./least)
         row "$name ${line%% *}" "$proved" "$plain" "$(awk "BEGIN { printf \"%.3f\", $proved / $plain }")"
-    done <$name.searches
+    done <free
 done

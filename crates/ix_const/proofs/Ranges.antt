@@ -1,5 +1,6 @@
 -- Numbers in a row, and those of them that pass a test.
-use Rattle.std.proofs.Common.{All, ◌≤◌, ◌<◌, zero, suc, ◌≡◌, ℕ, ◌+◌, Bool, cond, [], ◌∷◌, ◌++◌, ap, ◌∙◌, sym, arith}
+use Rattle.std.proofs.Common.{◌≡◌, ◌<◌, ◌≤◌, ℕ, zero, suc, ◌+◌, Bool, cond, [], ◌∷◌, ◌++◌, All}
+use Rattle.std.proofs.Common.{ap, ◌∙◌, sym, arith}
 use Rattle.std.specs.List.{filter, range_with_len}
 use Rattle.std.proofs.lemmas.List.{map-id}
 use Rattle.std.proofs.lemmas.List.Elements.{All-cons, All-nil}

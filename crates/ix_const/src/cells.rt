@@ -7,8 +7,8 @@ use ix_device::Device;
 use ix_num::{Constant, NameId};
 
 /// The constant for which cells of this type stand; `None` for any other type, and where the device
-/// has no constant cells. A type that the device names for both constants is gnd's. It doesn't matter
-/// whether the type has pin maps.
+/// has no constant cells. A type that the device names for both constants is gnd's. It doesn't
+/// matter whether the type has pin maps.
 pub fn is_const_cell(device: &Device, cell: NameId) -> Option<Constant>
     ensures { result ≡ constant_of_cell device.now cell }
 {

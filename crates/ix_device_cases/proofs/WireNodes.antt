@@ -1,7 +1,7 @@
 -- The wires of a device's tiles have nodes in its graph.
-use Rattle.std.proofs.Common.{◌≡◌, ◌<◌, refl, ap, sym, subst, ◌∙◌, ℕ, zero, suc, ◌+◌, nat_eq, List, []}
-use Rattle.std.proofs.Common.{◌∷◌, length, map, slice_get, Option, Some, None, IsSome, unwrap_or, arith}
-use Rattle.std.proofs.Common.{option_map, option_and_then, is_some}
+use Rattle.std.proofs.Common.{◌≡◌, ◌<◌, refl, ap, sym, subst, ◌∙◌, ℕ, zero, suc, ◌+◌, nat_eq}
+use Rattle.std.proofs.Common.{List, [], ◌∷◌, length, map, slice_get, Option, Some, None, IsSome}
+use Rattle.std.proofs.Common.{is_some, option_map, option_and_then, unwrap_or, arith}
 use Rattle.std.specs.List.{range_with_len}
 use Rattle.std.proofs.lemmas.List.{length-map}
 use Rattle.std.proofs.lemmas.List.FromFn.{length-range_with_len}

@@ -1,10 +1,11 @@
 //! Searches a grid from each point to each: by `find` and, with the distance along rows and columns
 //! as bound, by `find_bounded`.
 //!
-//! Reads the rows of the grid, a line each: a digit for what a point costs to enter, or 0 where it may
-//! not be entered. Prints a line for each source: how many targets are reached, how many edges the
-//! paths have together, what they cost, and a number folded from the edges' numbers in their order.
-//! Where the bounded searches tell another, it stands in a line behind.
+//! The file `grid` of `data` has the grid's rows, a line each: a digit for what a point costs to
+//! enter, or 0 where it may not be entered. Prints a line for each source: how many targets are
+//! reached, how many edges the paths have together, what they cost, and a number folded from the
+//! edges' numbers in their order. Where the bounded searches tell another, it stands in a line
+//! behind.
 #![tactic(auto)]
 
 mod told;

@@ -1,5 +1,5 @@
 -- The edges of a node graph, as a search of least paths sees them.
-use Rattle.std.specs.Prelude.{ℕ, List, map, unwrap_or}
+use Rattle.std.specs.Prelude.{List, map, unwrap_or}
 use Rattle.ix_num.specs.Numbers.{NodeNumber, PipNumber}
 use Rattle.ix_graph.specs.Graph.{Graph, out_of, to_node}
 use Rattle.ix_graph.specs.Pips.{DirectedPip}

@@ -1,10 +1,10 @@
 //! Times searches of least paths in a grid, or in the node graph of a device.
 //!
 //! The words of the command line name a file of costs, a file of searches and, for a node graph,
-//! the device. The costs are digits, one for each point, in lines: what the point costs to enter, or
-//! 0 where it may not be entered. A grid has a line for each row. Each line of searches has a name
-//! and pairs of points, `far 12-4711 0-55`; where the name ends with `:bounded` the distance along
-//! rows and columns leads the searches.
+//! the device. The costs are digits, one for each point, in lines: what the point costs to enter,
+//! or 0 where it may not be entered. A grid has a line for each row. Each line of searches has a
+//! name and pairs of points, `far 12-4711 0-55`; where the name ends with `:bounded` the distance
+//! along rows and columns leads the searches.
 //!
 //! A line is printed for each line of searches: its name, how many paths there are, and a number
 //! folded from their edges; on standard error, how long the searches took together.

@@ -56,8 +56,8 @@ fn with_bounded_search<E: Edges, C: Costs, B: Bounds>(
     Ok(with_found(with_time(sum, time), &found))
 }
 
-/// Adds the search from one point to another; by the distances on a grid of this width as bounds, if
-/// there is one.
+/// Adds the search from one point to another; by the distances on a grid of this width as bounds,
+/// if there is one.
 fn with_pair<E: Edges, C: Costs>(
     rt: &HostRuntime,
     search: &mut Search,

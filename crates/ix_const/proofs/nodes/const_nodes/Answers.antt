@@ -8,8 +8,8 @@ use Rattle.ix_const.proofs.nodes.const_nodes.Goals as goal
 pub loop-node-preserved : goal.loop-node-preserved
 loop-node-preserved c =
     c.in_ok-put_node.ensures
-    ∙ (ap (λ n. c.loop-node.found.items ++ filter (is_of_constant c.args.c c.args.graph.now) (n ∷ []))
-    c.new.ensures
+    ∙ (ap (λ n. c.loop-node.found.items
+    ++ filter (is_of_constant c.args.c c.args.graph.now) (n ∷ [])) c.new.ensures
     ∙ (ap (λ xs. xs ++ filter (is_of_constant c.args.c c.args.graph.now) (c.loop-node.node ∷ []))
     c.loop-node.invariant
     ∙ sym (one_tried (is_of_constant c.args.c c.args.graph.now) c.loop-node.node)))

@@ -62,30 +62,56 @@ still_named old new rec keeps h = more_device (no_fewer old new keeps) rec h
 pub device_told : (all : Segments) (names : List Text) (rec : DeviceRec) → AllDiffer names
     → reading_in_segments device all ≡ Ok (device_record names rec)
     → DeviceNamed (length names) rec → first_broken rec ≡ None
-        → device_in all (Ok (named_device names rec))
+    → device_in all (Ok (named_device names rec))
 device_told all names rec differ reads named valid =
     record { read = record { differ = differ; reads = reads; named = named }; valid = valid }
 
 pub rule_told : (all : Segments) (names : List Text) (rec : DeviceRec) (rule : Rule) (place : Place)
     → AllDiffer names → reading_in_segments device all ≡ Ok (device_record names rec)
     → DeviceNamed (length names) rec → IsBreach (first_broken rec) rule place
-        → device_in all (Err (Bad Device rule place))
-rule_told all names rec rule place differ reads named broken =
-    (rule, place, inr (inr record { from_device = named_device names rec; read =
-        record { differ = differ; reads = reads; named = named }; broken = broken }), refl)
+    → device_in all (Err (Bad Device rule place))
+rule_told all names rec rule place differ reads named broken = (
+  rule,
+  place,
+  inr (inr record {
+    from_device = named_device names rec;
+    read =
+        record { differ = differ; reads = reads; named = named };
+    broken = broken;
+  }),
+  refl,
+)
 
 pub frame_told : (all : Segments) (fault : FrameFault)
     → reading_in_segments device all ≡ Err (frame fault)
     → device_in all (Err (Bad Device (rule_of fault.rule) (places.At fault.segment fault.word)))
-frame_told all fault found = (_, _, inl record { fault = fault; found = found; rule_is =
-    refl; place_is = refl }, refl)
+frame_told all fault found = (
+  _,
+  _,
+  inl record {
+    fault = fault;
+    found = found;
+    rule_is =
+        refl;
+    place_is = refl;
+  },
+  refl,
+)
 
 pub too_few_told : (rec : DeviceRec) (names : List Text) (cells : List Cell) (kind n bels : ℕ)
     (text : Text) → IsTooFew rec cells kind n bels → slice_get names kind ≡ Some text
     → placed rec (named_cells names cells) (Err (TooFewBels text n bels))
 too_few_told rec names cells kind n bels text few is =
-    inl record { type_id = kind; kind = text; cells = n; bels = bels; too_few = few; type_is =
-        is; report_is = refl }
+    inl record {
+      type_id = kind;
+      kind = text;
+      cells = n;
+      bels = bels;
+      too_few = few;
+      type_is =
+          is;
+      report_is = refl;
+    }
 
 pub no_site_told : (rec : DeviceRec) (names : List Text) (cells : List Cell) (k : ℕ) (text : Text)
     (s : IsStuck rec cells k) → slice_get names s.cell.name ≡ Some text
@@ -101,18 +127,37 @@ placed_told rec names cells phys fitted =
 pub written_told : (names : List Text) (cells : List Cell) (phys : Phys) (bytes : List ℕ)
     (outcome : Outcome) → is_too_long phys_netlist (phys_record names phys) ≡ false
     → bytes ≡ encoding phys_netlist (phys_record names phys)
-        → reading phys_netlist bytes ≡ Ok (phys_record names phys)
-    → outcome ≡ record { report = implemented (length cells) (length phys.site_insts); outputs =
-        bytes ∷ [] } → written (named_cells names cells) phys (Ok outcome)
+    → reading phys_netlist bytes ≡ Ok (phys_record names phys)
+    → outcome ≡ record {
+      report = implemented (length cells) (length phys.site_insts);
+      outputs =
+          bytes ∷ [];
+    } → written (named_cells names cells) phys (Ok outcome)
 written_told names cells phys bytes outcome fits encoded decodes is =
-    record { bytes = bytes; fits = fits; encoded = encoded; decodes = decodes; outputs_are =
-        ap (λ (o : Outcome). o.outputs) is; report_is = ap (λ (o : Outcome). o.report) is }
+    record {
+      bytes = bytes;
+      fits = fits;
+      encoded = encoded;
+      decodes = decodes;
+      outputs_are =
+          ap (λ (o : Outcome). o.outputs) is;
+      report_is = ap (λ (o : Outcome). o.report) is;
+    }
 
 pub index_told : (all : Segments) (place : Place)
     → IsBadField place (reading_in_segments device all) → device_in all (Err (Bad Device I1 place))
-index_told all (places.Item k f i) h =
-    (_, _, inr (inl record { item = record { kind = k; field = f; index = i }; found = h; rule_is =
-        refl; place_is = refl }), refl)
+index_told all (places.Item k f i) h = (
+  _,
+  _,
+  inr (inl record {
+    item = record { kind = k; field = f; index = i };
+    found = h;
+    rule_is =
+        refl;
+    place_is = refl;
+  }),
+  refl,
+)
 index_told all places.File h = absurd h
 index_told all (places.At s w) h = absurd h
 index_told all (places.Named n) h = absurd h

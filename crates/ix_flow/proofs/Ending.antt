@@ -20,19 +20,19 @@ use Rattle.ix_flow.specs.Run.{job_for, ended, IsStatusOn, IsComplete}
 two_contents : (flow : Flow) (files : Files) (device design : List ℕ)
     → files flow.device ≡ Some device → files flow.design ≡ Some design
     → AreContents files (flow.device ∷ flow.design ∷ [])
-        (content_of device ∷ content_of design ∷ [])
+    (content_of device ∷ content_of design ∷ [])
 two_contents flow files device design d n =
     let first : option_map content_of (files flow.device) ≡ Some (content_of device) =
-        ap (option_map content_of) d in
+    ap (option_map content_of) d in
     let second : option_map content_of (files flow.design) ≡ Some (content_of design) =
-        ap (option_map content_of) n in
+    ap (option_map content_of) n in
     ap (λ (o : Option Content). o ∷ option_map content_of (files flow.design) ∷ []) first
-        ∙ ap (λ (o : Option Content). Some (content_of device) ∷ o ∷ []) second
+    ∙ ap (λ (o : Option Content). Some (content_of device) ∷ o ∷ []) second
 
 by_report : (device design : List ℕ) (report : Report) (status : Status) → status ≡ status_of report
     → (report ≡ a_report.OutOfMemory) ⊎ ((outcome : Outcome)
-        × IsFlowOutcome (content_of device ∷ content_of design ∷ []) outcome
-        × (report ≡ outcome.report))
+    × IsFlowOutcome (content_of device ∷ content_of design ∷ []) outcome
+    × (report ≡ outcome.report))
     → IsStatusOn device design status
 by_report device design report status s (inl memory) = inl (s ∙ ap status_of memory)
 by_report device design report status s (inr is) = inr (is.0, is.1, s ∙ ap status_of is.2)
@@ -40,14 +40,14 @@ by_report device design report status s (inr is) = inr (is.0, is.1, s ∙ ap sta
 pub flow_complete : {E : Type 0} (flow : Flow) (before after : Outside) (r : Result Report E)
     (status : Status) → status ≡ ended r
     → CompletesJob IsFlowOutcome (job_for flow) before after r
-        → IsComplete (Some flow) before after status
+    → IsComplete (Some flow) before after status
 flow_complete flow before after (Ok report) status s h files device design e d n failed =
     by_report device design report status s
-        (h files (content_of device ∷ content_of design ∷ []) e
-        (two_contents flow files device design d n) failed)
+    (h files (content_of device ∷ content_of design ∷ []) e
+    (two_contents flow files device design d n) failed)
 flow_complete flow before after (Err fault) status s h files device design e d n failed =
     absurd (h files (content_of device ∷ content_of design ∷ []) e
-        (two_contents flow files device design d n) failed)
+    (two_contents flow files device design d n) failed)
 
 -- what a job comes to that was refused
 pub refused_comes : {M : Type 0} (step : Step Outcome) (stop : Stop) (r : Result made.Outcome M)

@@ -66,7 +66,7 @@ same_maps : {A : Type 0} (f : CellPlacement → A) (g : Cell → A) (cells : Lis
     (places : List Spot) (ms : List CellPlacement) → length ms ≡ length cells
     → length places ≡ length cells
     → ((k : ℕ) (c : Cell) (p : Spot) (m : CellPlacement) → slice_get cells k ≡ Some c
-        → slice_get places k ≡ Some p → slice_get ms k ≡ Some m → f m ≡ g c)
+    → slice_get places k ≡ Some p → slice_get ms k ≡ Some m → f m ≡ g c)
     → map f ms ≡ map g cells
 same_maps f g [] places [] h l each = refl
 same_maps f g [] places (m ∷ ms) h l each = let bad : suc (length ms) ≡ 0 = h in cc
@@ -75,7 +75,7 @@ same_maps f g (c ∷ cs) [] (m ∷ ms) h l each = let bad : 0 ≡ suc (length cs
 same_maps f g (c ∷ cs) (p ∷ ps) (m ∷ ms) h l each =
     let head : f m ≡ g c = each 0 c p m refl refl refl in
     let rest : map f ms ≡ map g cs = same_maps f g cs ps ms (by_suc h) (by_suc l)
-        (λ k d q n. each (suc k) d q n) in
+    (λ k d q n. each (suc k) d q n) in
     ap (λ x. x ∷ map f ms) head ∙ ap (λ xs. g c ∷ xs) rest
   where
     by_suc : {a b : ℕ} → suc a ≡ suc b → a ≡ b
@@ -85,9 +85,9 @@ same_maps f g (c ∷ cs) (p ∷ ps) (m ∷ ms) h l each =
 each_placement : (P : CellPlacement → Spot → Type 0) (cells : List Cell) (places : List Spot)
     (ms : List CellPlacement) → length ms ≡ length cells
     → ((k : ℕ) (c : Cell) (p : Spot) (m : CellPlacement) → slice_get cells k ≡ Some c
-        → slice_get places k ≡ Some p → slice_get ms k ≡ Some m → P m p)
+    → slice_get places k ≡ Some p → slice_get ms k ≡ Some m → P m p)
     → (k : ℕ) (m : CellPlacement) (p : Spot) → slice_get ms k ≡ Some m → slice_get places k ≡ Some p
-        → P m p
+    → P m p
 each_placement P [] places (n ∷ ms) h each k m p at_m at_p = let bad : suc (length ms) ≡ 0 = h in cc
 each_placement P [] places [] h each k m p at_m at_p = let bad : None ≡ Some m = at_m in cc
 each_placement P (c ∷ cs) places [] h each k m p at_m at_p = let bad : 0 ≡ suc (length cs) = h in cc
@@ -107,7 +107,7 @@ keeps_names rec cells phys placed own = record {
   count = own.places_count ∙ sym own.placements_count;
   named = each_placement (NamesPlace rec) cells own.places phys.placements own.placements_count
       (λ k c p m a b e. let on : IsOnPlace rec c p m = own.each k c p m a b e in
-          record { site = on.site; bel = on.bel });
+      record { site = on.site; bel = on.bel });
   nets = placed.fitted.netlist.nets;
   properties = placed.fitted.netlist.properties;
 }
@@ -118,14 +118,14 @@ keeps_places : (rec : DeviceRec) (cells : List Cell) (phys : Phys)
 keeps_places rec cells phys own names_differ = record {
   once = subst (λ (xs : List ℕ). differ xs ≡ true)
       (sym (same_maps (λ m. m.cell_name) (λ c. c.name) cells own.places phys.placements
-          own.placements_count own.places_count
+      own.placements_count own.places_count
       (λ k c p m a b e. let on : IsOnPlace rec c p m = own.each k c p m a b e in on.cell_name)))
-          names_differ;
+      names_differ;
   one_cell = own.apart;
   admitted = each_placement (λ m p. admits rec m.ty p ≡ true) cells own.places phys.placements
       own.placements_count
       (λ k c p m a b e. let on : IsOnPlace rec c p m = own.each k c p m a b e in
-          subst (λ (ty : ℕ). admits rec ty p ≡ true) (sym on.ty) on.admitted);
+      subst (λ (ty : ℕ). admits rec ty p ≡ true) (sym on.ty) on.admitted);
   instances = own.instances;
   one_instance = own.sites_differ;
 }
@@ -134,14 +134,14 @@ same_texts : (rec : DeviceRec) (names : List Text) (c : Cell) (p : Spot) (m : Ce
     → IsOnPlace rec c p m → placed_texts names m ≡ cell_seen names c
 same_texts rec names c p m on =
     ap (λ (n : ℕ). (slice_index_or names n [], slice_index_or names m.ty [])) on.cell_name
-        ∙ ap (λ (n : ℕ). (slice_index_or names c.name [], slice_index_or names n [])) on.ty
+    ∙ ap (λ (n : ℕ). (slice_index_or names c.name [], slice_index_or names n [])) on.ty
 
 has_cells : (rec : DeviceRec) (names : List Text) (cells : List Cell) (phys : Phys)
     → HasOwnPlaces rec cells phys → map (placed_texts names) phys.placements ≡ map
     (cell_seen names) cells
 has_cells rec names cells phys own =
     same_maps (placed_texts names) (cell_seen names) cells own.places phys.placements
-        own.placements_count own.places_count
+    own.placements_count own.places_count
     (λ k c p m a b e. same_texts rec names c p m (own.each k c p m a b e))
 
 implements : (device design : Content) (outcome : Outcome) → answer device design (Ok outcome)
@@ -153,32 +153,35 @@ implements device design outcome h =
     let cells = rest.2.1 in
     let phys : Phys = rest.2.2.0 in
     let placed : IsPlaced d.rec c.cells phys = rest.2.2.1 in
-    let written : IsWritten c phys outcome = rest.2.2.2 in
-    (written.bytes, written.outputs_are, record {
-      device_segments = h.0;
-      device_opens = h.1;
-      on = d;
-      valid = h.2.1;
-      design_segments = rest.0;
-      design_opens = rest.1;
-      in_form = cells.in_form;
-      names = c.names;
-      keeps = cells.keeps;
-      phys = phys;
-      decodes = written.decodes;
-      places = placed.own.places;
-      l1 = keeps_names d.rec c.cells phys placed placed.own;
-      l2 = keeps_places d.rec c.cells phys placed.own cells.first.differ;
-      e1 = has_cells d.rec c.names c.cells phys placed.own ∙ cells.cells_are;
-    })
+    let written : IsWritten c phys outcome = rest.2.2.2 in (
+      written.bytes,
+      written.outputs_are,
+      record {
+        device_segments = h.0;
+        device_opens = h.1;
+        on = d;
+        valid = h.2.1;
+        design_segments = rest.0;
+        design_opens = rest.1;
+        in_form = cells.in_form;
+        names = c.names;
+        keeps = cells.keeps;
+        phys = phys;
+        decodes = written.decodes;
+        places = placed.own.places;
+        l1 = keeps_names d.rec c.cells phys placed placed.own;
+        l2 = keeps_places d.rec c.cells phys placed.own cells.first.differ;
+        e1 = has_cells d.rec c.names c.cells phys placed.own ∙ cells.cells_are;
+      },
+    )
 
 -- a run that ends done was answered, and not refused
 from_outcome : (flow : Flow) (before after : Outside) (device design : Content) (outcome : Outcome)
     → comes_to (answer device design) outcome → status_of outcome.report ≡ stat.Done
     → ((files : Files) → before.files ≡ Some files
-        → AreContents files (flow.device ∷ flow.design ∷ []) (device ∷ design ∷ []))
+    → AreContents files (flow.device ∷ flow.design ∷ []) (device ∷ design ∷ []))
     → after.files ≡ option_map (with_files (flow.routed ∷ []) outcome.outputs) before.files
-        → HasImplemented flow before after
+    → HasImplemented flow before after
 from_outcome flow before after device design outcome (inl ok) done read written =
     let made = implements device design outcome ok in
     record {
@@ -196,9 +199,9 @@ from_outcome flow before after device design outcome (inr refusal) done read wri
 from_contents : (flow : Flow) (before after : Outside) (contents : List Content) (outcome : Outcome)
     → IsFlowOutcome contents outcome → status_of outcome.report ≡ stat.Done
     → ((files : Files) → before.files ≡ Some files
-        → AreContents files (flow.device ∷ flow.design ∷ []) contents)
+    → AreContents files (flow.device ∷ flow.design ∷ []) contents)
     → after.files ≡ option_map (with_files (flow.routed ∷ []) outcome.outputs) before.files
-        → HasImplemented flow before after
+    → HasImplemented flow before after
 from_contents flow before after [] outcome is done read written = absurd is
 from_contents flow before after (device ∷ []) outcome is done read written = absurd is
 from_contents flow before after (device ∷ design ∷ []) outcome is done read written =
@@ -211,7 +214,7 @@ by_ending : (flow : Flow) (before after : Outside) (report : Report)
     → HasImplemented flow before after
 by_ending flow before after report (inl answered) done =
     from_contents flow before after answered.has.contents answered.has.outcome answered.has.is
-        (sym (ap status_of answered.report_is) ∙ done) answered.has.read answered.written
+    (sym (ap status_of answered.report_is) ∙ done) answered.has.read answered.written
 by_ending flow before after report (inr (inl unread)) done =
     absurd (not_done report (ap is_done unread.report_is) done)
 by_ending flow before after report (inr (inr (inl unwritten))) done =

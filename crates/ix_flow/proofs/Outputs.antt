@@ -89,53 +89,53 @@ answer_for_refuses : (d : NamedDevice) (design : Content) (report : Report)
     → answer_for d design (Err report) → IsRefusal report
 answer_for_refuses d design report h =
     refuses (opens Design design) (λ all. and_then (design_in d all) (λ c. netlist_for d.rec c))
-        report (opens_refuses Design design report)
+    report (opens_refuses Design design report)
     (λ all k. refuses (design_in d all) (λ c. netlist_for d.rec c) report
-        (design_refuses d all report) (λ c. netlist_refuses d.rec c report) k) h
+    (design_refuses d all report) (λ c. netlist_refuses d.rec c report) k) h
 
 pub answer_refuses : (device design : Content) (report : Report) → answer device design (Err report)
     → IsRefusal report
 answer_refuses device design report h =
     refuses (opens Device device) (λ all. and_then (device_in all) (λ d. answer_for d design))
-        report (opens_refuses Device device report)
+    report (opens_refuses Device device report)
     (λ all k. refuses (device_in all) (λ d. answer_for d design) report (device_refuses all report)
-        (λ d. answer_for_refuses d design report) k) h
+    (λ d. answer_for_refuses d design report) k) h
 
 written_one : (c : NamedCells) (phys : Phys) (outcome : Outcome) → written c phys (Ok outcome)
     → HasOne outcome
 written_one c phys outcome h =
     let one : length outcome.outputs ≡ 1 = ap length h.outputs_are in
     let done : (if writes outcome.report then 1 else 0) ≡ 1 =
-        ap (λ (x : Report). if writes x then 1 else 0) h.report_is in
+    ap (λ (x : Report). if writes x then 1 else 0) h.report_is in
     one ∙ sym done
 
 answer_for_one : (d : NamedDevice) (design : Content) (outcome : Outcome)
     → answer_for d design (Ok outcome) → HasOne outcome
 answer_for_one d design outcome h =
     goes_on_to HasOne (opens Design design)
-        (λ all. and_then (design_in d all) (λ c. netlist_for d.rec c)) outcome
+    (λ all. and_then (design_in d all) (λ c. netlist_for d.rec c)) outcome
     (λ all k. goes_on_to HasOne (design_in d all) (λ c. netlist_for d.rec c) outcome
     (λ c l. goes_on_to HasOne (placed d.rec c) (λ phys. written c phys) outcome
-        (λ phys. written_one c phys outcome) l) k) h
+    (λ phys. written_one c phys outcome) l) k) h
 
 pub answer_one : (device design : Content) (outcome : Outcome) → answer device design (Ok outcome)
     → HasOne outcome
 answer_one device design outcome h =
     goes_on_to HasOne (opens Device device)
-        (λ all. and_then (device_in all) (λ d. answer_for d design)) outcome
+    (λ all. and_then (device_in all) (λ d. answer_for d design)) outcome
     (λ all k. goes_on_to HasOne (device_in all) (λ d. answer_for d design) outcome
-        (λ d. answer_for_one d design outcome) k) h
+    (λ d. answer_for_one d design outcome) k) h
 
 pub refused_none : {M : Type 0} (device design : Content) (stop : Stop) (r : Result made.Outcome M)
     → Meets outcome_seen (answer device design) (Err stop)
     → IfOk r (λ o. stop ≡ Refused o.report) → IfOk r (λ o. o.outputs ≡ [])
-        → IfOk r (λ o. HasOutputs 1 (outcome_seen o))
+    → IfOk r (λ o. HasOutputs 1 (outcome_seen o))
 refused_none device design stop (Ok o) h is none =
     let refusal : answer device design (Err o.report) =
-        subst (λ (s : Stop). Meets outcome_seen (answer device design) (Err s)) is h in
+    subst (λ (s : Stop). Meets outcome_seen (answer device design) (Err s)) is h in
     let empty : length o.outputs ≡ 0 = ap length none in
     let undone : (if writes o.report then 1 else 0) ≡ 0 =
-        ap (λ (b : Bool). if b then 1 else 0)
-        (not_written o.report (answer_refuses device design o.report refusal)) in
+    ap (λ (b : Bool). if b then 1 else 0)
+    (not_written o.report (answer_refuses device design o.report refusal)) in
     empty ∙ sym undone
 refused_none device design stop (Err e) h is none = tt

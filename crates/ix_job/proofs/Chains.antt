@@ -26,4 +26,4 @@ pub exits_first : {A B X Y : Type 0} (view : X → A) (all : Y → B) (step : St
 exits_first view all step next stop r e h =
     let p = err_from_is_err_and r e in
     subst (Meets all (and_then step next)) (sym (p.1 ∙ ap Err p.2))
-        (stops_first view all step next stop h)
+    (stops_first view all step next stop h)

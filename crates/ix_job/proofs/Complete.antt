@@ -45,12 +45,16 @@ not_absent (Some other) files name e h absent =
 by_ending : (is_outcome : List Content → Outcome → Type 0) (job : Job) (before after : Outside)
     (report : Report) → IsEnding is_outcome job before after report
     → (files : Files) (contents : List Content) → before.files ≡ Some files
-        → AreContents files job.inputs contents → NothingFailed before after
-        → (report ≡ a_report.OutOfMemory)
-        ⊎ ((outcome : Outcome) × is_outcome contents outcome × (report ≡ outcome.report))
+    → AreContents files job.inputs contents → NothingFailed before after
+    → (report ≡ a_report.OutOfMemory)
+    ⊎ ((outcome : Outcome) × is_outcome contents outcome × (report ≡ outcome.report))
 by_ending is_outcome job before after report (inl h) files contents e c n =
-    inr (h.has.outcome, subst (λ (x : List Content). is_outcome x h.has.outcome)
-        (same_somes h.has.contents contents (sym (h.has.read files e) ∙ c)) h.has.is, h.report_is)
+    inr (
+      h.has.outcome,
+      subst (λ (x : List Content). is_outcome x h.has.outcome)
+          (same_somes h.has.contents contents (sym (h.has.read files e) ∙ c)) h.has.is,
+      h.report_is,
+    )
 by_ending is_outcome job before after report (inr (inl h)) files contents e c n =
     absurd (no_cause h.cause)
   where

@@ -16,7 +16,7 @@ pub runs : {E : Type 0} (is_outcome : List Content → Outcome → Type 0) (job 
     (before after : Outside) (report : Report) (r : Result Report E)
     → IsEnding is_outcome job before after report → KeepsCounts before after
     → Tells report before.told after.told before.put_faults after.put_faults r
-        → RunsJob is_outcome job before after r
+    → RunsJob is_outcome job before after r
 runs is_outcome job before after report (Ok told) e k t = record {
   ending = subst (IsEnding is_outcome job before after) (sym t.0) e;
   told = subst (λ (x : Report). IsTold x before.told after.told before.put_faults after.put_faults
@@ -29,21 +29,21 @@ runs is_outcome job before after report (Err failed) e k t =
 pub starved_run : {E : Type 0} (is_outcome : List Content → Outcome → Type 0) (job : Job)
     (before after : Outside) (r : Result Report E)
     → after.files ≡ before.files → after.write_faults ≡ before.write_faults
-        → KeepsCounts before after
+    → KeepsCounts before after
     → Tells a_report.OutOfMemory before.told after.told before.put_faults after.put_faults r
-        → RunsJob is_outcome job before after r
+    → RunsJob is_outcome job before after r
 starved_run is_outcome job before after r same write k t =
     runs is_outcome job before after a_report.OutOfMemory r
-        (inr (inr (inr record { kept = same; untried = write; report_is = refl }))) k t
+    (inr (inr (inr record { kept = same; untried = write; report_is = refl }))) k t
 
 pub unread_run : {E : Type 0} (is_outcome : List Content → Outcome → Type 0) (job : Job)
     (before after : Outside) (place : ℕ) (name : Name) (r : Result Report E)
     → slice_get job.inputs place ≡ Some name
-        → IsUnreadAt before.files before.read_faults after.read_faults job.inputs place
+    → IsUnreadAt before.files before.read_faults after.read_faults job.inputs place
     → after.files ≡ before.files → after.write_faults ≡ before.write_faults
-        → KeepsCounts before after
+    → KeepsCounts before after
     → TellsEither (a_report.ReadFault name) a_report.OutOfMemory before.told after.told
-        before.put_faults after.put_faults r
+    before.put_faults after.put_faults r
     → RunsJob is_outcome job before after r
 unread_run is_outcome job before after place name r n u same write k (inl t) =
     runs is_outcome job before after (a_report.ReadFault name) r (inr (inl record {
@@ -63,9 +63,9 @@ unread_run is_outcome job before after place name r n u same write k (inr t) =
 abbrev has_outcome : (is_outcome : List Content → Outcome → Type 0) (job : Job)
     (told : Option Files) (contents : List Content) (r : Ready)
     → length contents ≡ length job.inputs
-        → ((files : Files) → told ≡ Some files → AreContents files job.inputs contents)
+    → ((files : Files) → told ≡ Some files → AreContents files job.inputs contents)
     → IsMadeOf is_outcome contents (length job.outputs) job.outputs r
-        → HasOutcome is_outcome job told
+    → HasOutcome is_outcome job told
 has_outcome is_outcome job told contents r count read made = record {
   contents = contents;
   outcome = record { report = r.done.report; outputs = r.outputs };
@@ -73,28 +73,43 @@ has_outcome is_outcome job told contents r count read made = record {
   read = read;
   is = subst (λ (x : Report). is_outcome contents record { report = x; outputs = r.outputs })
       (sym made.report)
-      (subst (λ (x : List (List ℕ)). is_outcome contents record { report =
-          made.outcome.report; outputs = x }) (sym made.outputs_are) made.is);
-  has_outputs = subst (λ (x : Report). HasOutputs (length job.outputs) record { report =
-      x; outputs = r.outputs }) (sym made.report)
-      (subst (λ (x : List (List ℕ)). HasOutputs (length job.outputs) record { report =
-          made.outcome.report; outputs = x }) (sym made.outputs_are) made.has_outputs);
+      (subst (λ (x : List (List ℕ)). is_outcome contents record {
+        report =
+            made.outcome.report;
+        outputs = x;
+      }) (sym made.outputs_are) made.is);
+  has_outputs = subst (λ (x : Report). HasOutputs (length job.outputs) record {
+    report =
+        x;
+    outputs = r.outputs;
+  }) (sym made.report)
+      (subst (λ (x : List (List ℕ)). HasOutputs (length job.outputs) record {
+        report =
+            made.outcome.report;
+        outputs = x;
+      }) (sym made.outputs_are) made.has_outputs);
 }
 
 -- the outside once the inputs were read
 abbrev pub once_read : Outside → (files : Option Files) (reads writes : Counts) → Outside
-once_read before files reads writes = record { files = files; read_faults = reads; write_faults =
-    writes; told = before.told; put_faults = before.put_faults }
+once_read before files reads writes = record {
+  files = files;
+  read_faults = reads;
+  write_faults =
+      writes;
+  told = before.told;
+  put_faults = before.put_faults;
+}
 
 pub finished_run : {E : Type 0} (is_outcome : List Content → Outcome → Type 0) (job : Job)
     (before after : Outside) (files : Option Files) (reads writes : Counts)
     (contents : List Content) (made : Ready) (r : Result Report E) → files ≡ before.files
-        → writes ≡ before.write_faults
+    → writes ≡ before.write_faults
     → length contents ≡ length job.inputs
-        → ((files : Files) → before.files ≡ Some files → AreContents files job.inputs contents)
+    → ((files : Files) → before.files ≡ Some files → AreContents files job.inputs contents)
     → IsMadeOf is_outcome contents (length job.outputs) job.outputs made
     → KeepsCounts before after → Finishes made job.outputs
-        (once_read before files reads writes) after r → RunsJob is_outcome job before after r
+    (once_read before files reads writes) after r → RunsJob is_outcome job before after r
 finished_run is_outcome job before after files reads writes contents made r same write count read m
     k (inl whole) =
     runs is_outcome job before after made.done.report r (inl record {

@@ -36,7 +36,7 @@ none_set names outputs (Some files) = refl
 set_last : (names : List Name) (outputs : List (List ℕ)) (name bytes : List ℕ) (files : Files)
     → length names ≡ length outputs
     → with_files (names ++ name ∷ []) (outputs ++ bytes ∷ []) files ≡ with_file name bytes
-        (with_files names outputs files)
+    (with_files names outputs files)
 set_last [] [] name bytes files h = refl
 set_last [] (b ∷ bs) name bytes files h = absurd (omega (arith, h))
 set_last (n ∷ ns) [] name bytes files h = absurd (omega (arith, h))
@@ -47,26 +47,26 @@ set_next : (names : List Name) (outputs : List (List ℕ)) (i : ℕ) (name bytes
     (files : Files)
     → slice_get names i ≡ Some name → slice_get outputs i ≡ Some bytes
     → with_files (take (i + 1) names) (take (i + 1) outputs) files ≡ with_file name bytes
-        (with_files (take i names) (take i outputs) files)
+    (with_files (take i names) (take i outputs) files)
 set_next names outputs i name bytes files n b =
     ap (λ (xs : List Name). with_files xs (take (i + 1) outputs) files) (take_next names i name n)
     ∙ ap (λ (ys : List (List ℕ)). with_files (take i names ++ name ∷ []) ys files)
-        (take_next outputs i bytes b)
+    (take_next outputs i bytes b)
     ∙ set_last (take i names) (take i outputs) name bytes files
-        (length_take names i name n ∙ sym (length_take outputs i bytes b))
+    (length_take names i name n ∙ sym (length_take outputs i bytes b))
 
 -- the same where files may not be told
 pub one_more_set : (names : List Name) (outputs : List (List ℕ)) (i : ℕ) (name bytes : List ℕ)
     (old now new : Option Files)
     → slice_get names i ≡ Some name → slice_get outputs i ≡ Some bytes
     → now ≡ option_map (with_files (take i names) (take i outputs)) old
-        → new ≡ option_map (with_file name bytes) now
+    → new ≡ option_map (with_file name bytes) now
     → new ≡ option_map (with_files (take (i + 1) names) (take (i + 1) outputs)) old
 one_more_set names outputs i name bytes None now new n b p q =
     q ∙ ap (option_map (with_file name bytes)) p
 one_more_set names outputs i name bytes (Some files) now new n b p q =
     q ∙ ap (option_map (with_file name bytes)) p
-        ∙ ap Some (sym (set_next names outputs i name bytes files n b))
+    ∙ ap Some (sym (set_next names outputs i name bytes files n b))
 
 -- all are set, where no name or no output is left
 past_all : (names : List Name) (outputs : List (List ℕ)) (i : ℕ) (files : Files)
@@ -83,7 +83,7 @@ past_all (n ∷ ns) (b ∷ bs) (suc i) files h =
 pub all_set : (names : List Name) (outputs : List (List ℕ)) (i : ℕ) (old now : Option Files)
     → i ≡ min (length names) (length outputs)
     → now ≡ option_map (with_files (take i names) (take i outputs)) old
-        → now ≡ option_map (with_files names outputs) old
+    → now ≡ option_map (with_files names outputs) old
 all_set names outputs i None now h p = p
 all_set names outputs i (Some files) now h p = p ∙ ap Some (past_all names outputs i files h)
 
@@ -95,15 +95,15 @@ none_read names files = refl
 pub one_more_read : (names : List Name) (i : ℕ) (name : Name) (contents : List Content)
     (bytes : List ℕ) (files : Files)
     → slice_get names i ≡ Some name → files name ≡ Some bytes
-        → AreContents files (take i names) contents
+    → AreContents files (take i names) contents
     → AreContents files (take (i + 1) names) (contents ++ content_of bytes ∷ [])
 one_more_read names i name contents bytes files n b h =
     ap (λ (xs : List Name). map (λ name. option_map content_of (files name)) xs)
-        (take_next names i name n)
+    (take_next names i name n)
     ∙ map-append (λ (name : Name). option_map content_of (files name)) (take i names) (name ∷ [])
     ∙ ap (λ (xs : List (Option Content)). xs ++ option_map content_of (files name) ∷ []) h
     ∙ ap (λ (o : Option (List ℕ)). map (λ content. Some content) contents ++ option_map content_of o
-        ∷ []) b
+    ∷ []) b
     ∙ sym (map-append (λ (content : Content). Some content) contents (content_of bytes ∷ []))
 
 -- the same as the code has them
@@ -112,11 +112,11 @@ pub one_more_seen : (names : List Name) (i : ℕ) (name : Name) (contents new : 
     → slice_get names i ≡ Some name → new ≡ contents ++ content ∷ []
     → (bytes : List ℕ) × (files name ≡ Some bytes) × (content_seen content ≡ content_of bytes)
     → AreContents files (take i names) (map content_seen contents)
-        → AreContents files (take (i + 1) names) (map content_seen new)
+    → AreContents files (take (i + 1) names) (map content_seen new)
 one_more_seen names i name contents new content files n p is h =
     subst (AreContents files (take (i + 1) names))
     (sym (ap (map content_seen) p ∙ map-append content_seen contents (content ∷ [])
-        ∙ ap (λ (c : Content). map content_seen contents ++ c ∷ []) is.2))
+    ∙ ap (λ (c : Content). map content_seen contents ++ c ∷ []) is.2))
     (one_more_read names i name (map content_seen contents) is.0 files n is.1 h)
 
 -- a cause that comes later is one of the whole

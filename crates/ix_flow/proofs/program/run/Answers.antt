@@ -9,20 +9,20 @@ use Rattle.ix_flow.proofs.program.run.Goals as goal
 pub returns-in-Some-clause-run : goal.returns-in-Some-clause-run
 returns-in-Some-clause-run g c =
     let before = outside g.S.Shelf.files g.S.Shelf.read_faults g.S.Shelf.write_faults g.O.Sink.told
-        g.O.Sink.faults c.args.shelf.now c.args.out.now in
+    g.O.Sink.faults c.args.shelf.now c.args.out.now in
     let after = outside g.S.Shelf.files g.S.Shelf.read_faults g.S.Shelf.write_faults g.O.Sink.told
-        g.O.Sink.faults c.run_flow.new.shelf c.run_flow.new.out in
+    g.O.Sink.faults c.run_flow.new.shelf c.run_flow.new.out in
     subst (λ (w : Option Flow). IsRun w before after c.run_flow.result) c.in-Some.ensures
-        c.run_flow.ensures.run
+    c.run_flow.ensures.run
 
 pub returns-in-Some-clause-complete : goal.returns-in-Some-clause-complete
 returns-in-Some-clause-complete g c =
     let before = outside g.S.Shelf.files g.S.Shelf.read_faults g.S.Shelf.write_faults g.O.Sink.told
-        g.O.Sink.faults c.args.shelf.now c.args.out.now in
+    g.O.Sink.faults c.args.shelf.now c.args.out.now in
     let after = outside g.S.Shelf.files g.S.Shelf.read_faults g.S.Shelf.write_faults g.O.Sink.told
-        g.O.Sink.faults c.run_flow.new.shelf c.run_flow.new.out in
+    g.O.Sink.faults c.run_flow.new.shelf c.run_flow.new.out in
     subst (λ (w : Option Flow). IsComplete w before after c.run_flow.result) c.in-Some.ensures
-        c.run_flow.ensures.complete
+    c.run_flow.ensures.complete
 
 pub returns-in-Some-clause-implements : goal.returns-in-Some-clause-implements
 returns-in-Some-clause-implements g c = run_implements _ _ _ _ (returns-in-Some-clause-run g c)

@@ -8,7 +8,7 @@ pub loop-i-preserved : goal.loop-i-preserved
 loop-i-preserved c = record {
   lines = one_more_line (λ line. line.report) _ _ _ _ c.loop-i.i _ c.in_ok-push.ensures.items
       (text_at (λ name. name.now) c.args.names.now c.loop-i.i _ c.loop-i-test.true)
-          c.in_ok-unwritten_line.ensures c.loop-i.invariant.lines;
+      c.in_ok-unwritten_line.ensures c.loop-i.invariant.lines;
 }
 
 pub returns : goal.returns

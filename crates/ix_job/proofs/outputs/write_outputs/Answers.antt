@@ -16,6 +16,12 @@ loop-i-preserved g c = record {
 pub returns-clause-all : goal.returns-clause-all
 returns-clause-all g c =
     all_set _ c.args.outputs.now c.loop-i.i _ _
-    (omega (arith, length-map c.args.names.now (λ name. name.now), c.min-i-end.ensures,
-        c.len.ensures, c.loop-i-test.false, c.loop-i.auto.i-end))
+    (omega (
+      arith,
+      length-map c.args.names.now (λ name. name.now),
+      c.min-i-end.ensures,
+      c.len.ensures,
+      c.loop-i-test.false,
+      c.loop-i.auto.i-end,
+    ))
     c.loop-i.invariant.files

@@ -14,5 +14,5 @@ returns-clause-finished g c =
           (g.O.Sink.told c.tell-in-Err.new.out) (g.O.Sink.faults c.args.out.now)
           (g.O.Sink.faults c.tell-in-Err.new.out) c.tell-in-Err.result)
           (fault_told _ _ c.in-Err.unwritten.place cut.name _ c.requires cut.which
-              c.line_at.ensures) c.tell-in-Err.ensures.told;
+          c.line_at.ensures) c.tell-in-Err.ensures.told;
     }

@@ -14,13 +14,16 @@ use Rattle.ix_job_cases.proofs.joins.JoinsWork.outcome.Goals as goal
 pub returns-clause-outcome : goal.returns-clause-outcome
 returns-clause-outcome c =
     let two = ap (map content_seen) (two_items c.args.inputs.now c.at.result.now c.at-2.result.now
-        c.requires c.at.ensures c.at-2.ensures) in
+    c.requires c.at.ensures c.at-2.ensures) in
     subst (λ (xs : List Content). IfOk c.joined_contents.result (λ o. IsJoined xs (outcome_seen o)))
-        (sym two) c.joined_contents.ensures
+    (sym two) c.joined_contents.ensures
 
 by_empty : (empty : Bool) (xs ys : List ℕ)
-    → HasOutputs 2 (if empty then record { report = No E2 places.File; outputs =
-    [] } else record { report = Demo 1 2 3 4; outputs = (xs ++ ys) ∷ (ys ++ xs) ∷ [] })
+    → HasOutputs 2 (if empty then record {
+      report = No E2 places.File;
+      outputs =
+          [];
+    } else record { report = Demo 1 2 3 4; outputs = (xs ++ ys) ∷ (ys ++ xs) ∷ [] })
 by_empty true xs ys = refl
 by_empty false xs ys = refl
 

@@ -4,7 +4,7 @@ use Rattle.std.proofs.Common.{Some, None, Ok, Err, true, false, Bool, nat_lt, re
 use Rattle.std.proofs.Math.Nat.{not-suc-le_self}
 use borrow.Author.Tests.{ltb-true, ltb-false}
 use Rattle.std.proofs.lemmas.Option.{same_Some, slice_get_within, slice_get-get_or}
-use Rattle.ix_message.specs.Shape.{Text}
+use Rattle.ix_message.specs.Shape.{Struct, Text}
 use Rattle.ix_rec.specs.declared.device.DeviceRec.{DeviceRec}
 use Rattle.ix_strings.specs.Names.{AllDiffer, KeepsNumbers}
 use Rattle.ix_device_read.specs.Named.{DeviceNamed}
@@ -16,13 +16,15 @@ use Rattle.ix_num.specs.declared.fault.FrameFault.{FrameFault}
 use Rattle.ix_rec.specs.declared.phys.Phys.{Phys}
 use Rattle.ix_rec.specs.declared.place.Rule.{Rule}
 use Rattle.ix_rec.specs.declared.place.Rule.TheVariants.{I1}
-use Rattle.ix_rec.specs.declared.place.File.TheVariants.{Device}
+use Rattle.ix_rec.specs.declared.place.File.{File}
+use Rattle.ix_rec.specs.declared.place.File.TheVariants.{Device, Design}
 use Rattle.ix_rec.specs.declared.place.Place.{Place}
 use Rattle.ix_rec.specs.declared.place.Place.TheVariants as places
 use Rattle.ix_report.specs.declared.report.Report.TheVariants.{Bad, TooFewBels, NoSite}
 use Rattle.ix_frame.specs.Segments.{Segments}
 use Rattle.ix_message.specs.Message.{frame, reading, encoding, is_too_long}
 use Rattle.ix_message.specs.Device.{device}
+use Rattle.ix_message.specs.Netlist.{netlist}
 use Rattle.ix_message.specs.Phys.{phys_netlist}
 use Rattle.ix_device_read.specs.Records.{device_record}
 use Rattle.ix_device_read.specs.Reading.{reading_in_segments, IsBadField}
@@ -30,8 +32,12 @@ use Rattle.ix_device_rules.specs.Broken.{IsBreach}
 use Rattle.ix_device_rules.specs.Rules.{first_broken}
 use Rattle.ix_phys_write.specs.Record.{phys_record}
 use Rattle.ix_job.specs.Job.{Outcome}
-use Rattle.ix_flow.specs.Answer.{rule_of, device_in, placed, written, implemented}
-use Rattle.ix_flow.specs.Named.{named_device, named_cells}
+use Rattle.ix_job.specs.Chain.{Meets}
+use Rattle.ix_job.specs.declared.stop.Stop.{Stop}
+use Rattle.ix_job.specs.declared.stop.Stop.TheVariants.{Refused, Memory as NoMemory}
+use Rattle.ix_flow.specs.Answer.{NamedDevice, rule_of, device_in, design_in, placed, written}
+use Rattle.ix_flow.specs.Answer.{implemented}
+use Rattle.ix_flow.specs.Named.{named_device, named_cells, TellsUnread}
 use Rattle.ix_first_fit.proofs.Apart.{own_places}
 use Rattle.ix_flow.proofs.MoreNames.{more_device}
 
@@ -73,30 +79,38 @@ pub rule_told : (all : Segments) (names : List Text) (rec : DeviceRec) (rule : R
 rule_told all names rec rule place differ reads named broken = (
   rule,
   place,
-  inr (inr record {
+  inr record {
     from_device = named_device names rec;
-    read =
-        record { differ = differ; reads = reads; named = named };
+    read = record { differ = differ; reads = reads; named = named };
     broken = broken;
-  }),
-  refl,
-)
-
-pub frame_told : (all : Segments) (fault : FrameFault)
-    → reading_in_segments device all ≡ Err (frame fault)
-    → device_in all (Err (Bad Device (rule_of fault.rule) (places.At fault.segment fault.word)))
-frame_told all fault found = (
-  _,
-  _,
-  inl record {
-    fault = fault;
-    found = found;
-    rule_is =
-        refl;
-    place_is = refl;
   },
   refl,
 )
+
+-- a fault of reading, as it is told of any file
+pub frame_told : (file : File) (message : Struct) (all : Segments) (fault : FrameFault)
+    → reading_in_segments message all ≡ Err (frame fault)
+    → TellsUnread file message all
+    (Refused (Bad file (rule_of fault.rule) (places.At fault.segment fault.word)))
+frame_told file message all fault found = (
+  _,
+  _,
+  inl record { fault = fault; found = found; rule_is = refl; place_is = refl },
+  refl,
+)
+
+-- what is told of a device that can't be read
+pub unread_device : (all : Segments) (stop : Stop) → TellsUnread Device device all stop
+    → Meets (named_device []) (device_in all) (Err stop)
+unread_device all (Refused report) h = (h.0, h.1, inl h.2, h.3)
+unread_device all NoMemory h = tt
+
+-- what is told of a design that can't be read, and of one that isn't in first form
+pub unread_design : (names : List Text) (d : NamedDevice) (all : Segments) (stop : Stop)
+    → TellsUnread Design netlist all stop → Meets (named_cells names) (design_in d all) (Err stop)
+unread_design names d all (Refused report) h =
+    inl record { rule = h.0; place = h.1; broken = h.2; report_is = h.3 }
+unread_design names d all NoMemory h = tt
 
 pub too_few_told : (rec : DeviceRec) (names : List Text) (cells : List Cell) (kind n bels : ℕ)
     (text : Text) → IsTooFew rec cells kind n bels → slice_get names kind ≡ Some text
@@ -144,26 +158,26 @@ written_told names cells phys bytes outcome fits encoded decodes is =
       report_is = ap (λ (o : Outcome). o.report) is;
     }
 
-pub index_told : (all : Segments) (place : Place)
-    → IsBadField place (reading_in_segments device all) → device_in all (Err (Bad Device I1 place))
-index_told all (places.Item k f i) h = (
+pub index_told : (file : File) (message : Struct) (all : Segments) (place : Place)
+    → IsBadField place (reading_in_segments message all)
+    → TellsUnread file message all (Refused (Bad file I1 place))
+index_told file message all (places.Item k f i) h = (
   _,
   _,
-  inr (inl record {
+  inr record {
     item = record { kind = k; field = f; index = i };
     found = h;
-    rule_is =
-        refl;
+    rule_is = refl;
     place_is = refl;
-  }),
+  },
   refl,
 )
-index_told all places.File h = absurd h
-index_told all (places.At s w) h = absurd h
-index_told all (places.Named n) h = absurd h
-index_told all (places.Cell n) h = absurd h
-index_told all (places.Pin a b) h = absurd h
-index_told all (places.Segment n i) h = absurd h
-index_told all (places.Element s k) h = absurd h
-index_told all (places.Site n) h = absurd h
-index_told all (places.Key k) h = absurd h
+index_told file message all places.File h = absurd h
+index_told file message all (places.At s w) h = absurd h
+index_told file message all (places.Named n) h = absurd h
+index_told file message all (places.Cell n) h = absurd h
+index_told file message all (places.Pin a b) h = absurd h
+index_told file message all (places.Segment n i) h = absurd h
+index_told file message all (places.Element s k) h = absurd h
+index_told file message all (places.Site n) h = absurd h
+index_told file message all (places.Key k) h = absurd h

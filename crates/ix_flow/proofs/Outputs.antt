@@ -69,7 +69,8 @@ device_refuses all report h = ap is_done h.3
 
 design_refuses : (d : NamedDevice) (all : Segments) (report : Report) → design_in d all (Err report)
     → IsRefusal report
-design_refuses d all report h = ap is_done h.1
+design_refuses d all report (inl h) = ap is_done h.report_is
+design_refuses d all report (inr h) = ap is_done h.report_is
 
 placed_refuses : (rec : DeviceRec) (c : NamedCells) (report : Report) → placed rec c (Err report)
     → IsRefusal report

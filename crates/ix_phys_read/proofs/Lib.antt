@@ -1,0 +1,10 @@
+pub mod Costs
+pub mod Found
+pub mod Lists
+pub mod NetTrees
+pub mod Opened
+pub mod Rows
+pub mod Stacks
+pub mod Steps
+pub mod Stops
+pub mod Trees

@@ -1,0 +1,262 @@
+-- The steps of a physical netlist, struct by struct, and that counting them as the code does finds the first bad field.
+use Prim.Native.String.{String}
+use Rattle.std.proofs.Common.{◌≡◌, ℕ, zero, suc, ◌+◌, ◌-◌, ◌^◌, ◌<◌, ◌≤◌, List, [], ◌∷◌, ◌++◌, length, replicate, Bool, true, false, cond, Option, Some, None, Result, Ok, Err, refl, sym, ap, ◌∙◌, subst, arith, eq-eqb, append_assoc}
+use Rattle.std.specs.Prelude.{codes, min, if◌then◌else◌, slice_index, ◌==◌, ◌&&◌}
+use Rattle.std.specs.List.{AllByRecursion, count_by, flat_map, list_all}
+use Rattle.std.proofs.lemmas.Bool.{both_ways, and_parts, eqb-true}
+use Rattle.std.proofs.lemmas.List.{append-nil, length-set, length-append, get_or-set_same, get_or-set_other}
+use Rattle.std.proofs.lemmas.List.Sums.{sum_by_push, count_by-le-length}
+use Rattle.ix_frame.specs.Result.{◌>>=◌}
+use Rattle.ix_message.specs.Indexes.{Item, Step, Entry, Lists, begun, asked, ask_row, fits, begins, first_unfit, steps, part_steps, branch_steps, lists_of, lengths_of}
+use Rattle.ix_message.specs.Names.{same_text}
+use Rattle.ix_message.specs.Phys.{pin_mapping, cell_placement, phys_net, site_instance, property, phys_netlist, segment}
+use Rattle.ix_message.specs.Shape.{Text, Field, Kind, Struct, Pointers, Branches, Value, Parts, field, flag, nothing, choice, name, by_tag, struct_of, no_more, ends, branch, preorder}
+use Rattle.ix_device_read.specs.Finish.{place_of, with_one_more, field_at}
+use Rattle.ix_phys_read.specs.Walked.{phys_kinds, begin, walked}
+use Rattle.std.proofs.lemmas.Grind.{flat_map-append}
+
+-- Steps one after another.
+
+pub walked_on : (counts : List ℕ) (xs ys : List Step) → walked counts (xs ++ ys) ≡ (walked counts xs >>= λ now. walked now ys)
+unfolding walked
+walked_on counts [] ys = refl
+walked_on counts (begun kind ∷ xs) ys = walked_on (begin kind counts) xs ys
+walked_on counts (asked kind called true ∷ xs) ys = walked_on counts xs ys
+walked_on counts (asked kind called false ∷ xs) ys = refl
+
+pub walked_then : (counts now : List ℕ) (xs ys : List Step) → walked counts xs ≡ Ok now → walked counts (xs ++ ys) ≡ walked now ys
+walked_then counts now xs ys is = walked_on counts xs ys ∙ rw is refl
+
+pub walked_fails : (counts : List ℕ) (xs ys : List Step) (i : Item) → walked counts xs ≡ Err i → walked counts (xs ++ ys) ≡ Err i
+walked_fails counts xs ys i is = walked_on counts xs ys ∙ rw is refl
+
+-- Fields that ask nothing of the structs around.
+
+abbrev is_plain : Kind → Bool
+is_plain flag = true
+is_plain nothing = true
+is_plain (choice most) = true
+is_plain name = true
+is_plain (by_tag slot value here there) = is_plain here && is_plain there
+is_plain _ = false
+
+abbrev has_plain_kind : Field → Bool
+has_plain_kind f = is_plain f.kind
+
+fits_anywhere : (l : Lists) (a b : List Entry) (row : List ℕ) (k : Kind) (n : ℕ) → is_plain k ≡ true → fits l a row k n ≡ fits l b row k n
+fits_anywhere l a b row flag n h = refl
+fits_anywhere l a b row nothing n h = refl
+fits_anywhere l a b row (choice most) n h = refl
+fits_anywhere l a b row name n h = refl
+fits_anywhere l a b row (by_tag slot value here there) n h =
+    let two = and_parts (is_plain here) (is_plain there) h in
+    rw (fits_anywhere l a b row here n two.0, fits_anywhere l a b row there n two.1) refl
+fits_anywhere l a b row _ n h = absurd cc
+
+asked_anywhere : (l : Lists) (a b : List Entry) (kind : String) (row : List ℕ) (fields : List Field) (ns : List ℕ) → list_all has_plain_kind fields ≡ true → ask_row l a kind row fields ns ≡ ask_row l b kind row fields ns
+asked_anywhere l a b kind row [] ns h = refl
+asked_anywhere l a b kind row (f ∷ fs) [] h = refl
+asked_anywhere l a b kind row (f ∷ fs) (n ∷ ns) h =
+    let two = and_parts (is_plain f.kind) (list_all has_plain_kind fs) h in
+    rw (fits_anywhere l a b row f.kind n two.0, asked_anywhere l a b kind row fs ns two.1) refl
+
+flat_same : {A B : Type 0} (f g : A → List B) → ((x : A) → f x ≡ g x) → (xs : List A) → flat_map f xs ≡ flat_map g xs
+flat_same f g same [] = refl
+flat_same f g same (x ∷ xs) = rw (same x, flat_same f g same xs) refl
+
+abbrev fields_of : Struct → List Field
+fields_of (struct_of kind fields ps) = fields
+
+-- what a struct asks of its own row
+unfoldable pub own : Lists → Struct → List ℕ → List Step
+own l (struct_of kind fields ps) row = begun kind ∷ ask_row l [] kind row fields row
+
+pub pin_steps : (l : Lists) (around : List Entry) (v : Value ℕ pin_mapping) → steps pin_mapping l around v ≡ own l pin_mapping v.0
+unfolding steps part_steps own
+pin_steps l around v =
+    let here : Entry = record { row = v.0; lists = []; lengths = [] } in
+    append-nil (begun "PinMapping" ∷ ask_row l (here ∷ around) "PinMapping" v.0 (fields_of pin_mapping) v.0) ∙ ap (λ (xs : List Step). begun "PinMapping" ∷ xs) (asked_anywhere l (here ∷ around) [] "PinMapping" v.0 (fields_of pin_mapping) v.0 refl)
+
+pub site_steps : (l : Lists) (around : List Entry) (v : Value ℕ site_instance) → steps site_instance l around v ≡ own l site_instance v.0
+unfolding steps part_steps own
+site_steps l around v =
+    let here : Entry = record { row = v.0; lists = []; lengths = [] } in
+    append-nil (begun "SiteInstance" ∷ ask_row l (here ∷ around) "SiteInstance" v.0 (fields_of site_instance) v.0) ∙ ap (λ (xs : List Step). begun "SiteInstance" ∷ xs) (asked_anywhere l (here ∷ around) [] "SiteInstance" v.0 (fields_of site_instance) v.0 refl)
+
+pub property_steps : (l : Lists) (around : List Entry) (v : Value ℕ property) → steps property l around v ≡ own l property v.0
+unfolding steps part_steps own
+property_steps l around v =
+    let here : Entry = record { row = v.0; lists = []; lengths = [] } in
+    append-nil (begun "Property" ∷ ask_row l (here ∷ around) "Property" v.0 (fields_of property) v.0) ∙ ap (λ (xs : List Step). begun "Property" ∷ xs) (asked_anywhere l (here ∷ around) [] "Property" v.0 (fields_of property) v.0 refl)
+
+pub placement_steps : (l : Lists) (around : List Entry) (v : Value ℕ cell_placement) → steps cell_placement l around v ≡ own l cell_placement v.0 ++ flat_map (steps pin_mapping l []) v.1.0
+unfolding steps part_steps own
+placement_steps l around v =
+    let here : Entry = record { row = v.0; lists = [] ∷ []; lengths = length v.1.0 ∷ [] } in
+    rw (asked_anywhere l (here ∷ around) [] "CellPlacement" v.0 (fields_of cell_placement) v.0 refl, append-nil (flat_map (steps pin_mapping l (here ∷ around)) v.1.0),
+    flat_same (steps pin_mapping l (here ∷ around)) (steps pin_mapping l []) (λ p. pin_steps l (here ∷ around) p ∙ sym (pin_steps l [] p)) v.1.0) refl
+
+pub net_steps : (l : Lists) (around : List Entry) (v : Value ℕ phys_net) → steps phys_net l around v ≡ own l phys_net v.0 ++ (branch_steps l "RouteBranch" segment v.1.0 ++ branch_steps l "RouteBranch" segment v.1.1.0)
+unfolding steps part_steps own
+net_steps l around v =
+    let here : Entry = record { row = v.0; lists = [] ∷ [] ∷ []; lengths = 0 ∷ 0 ∷ [] } in
+    rw (asked_anywhere l (here ∷ around) [] "PhysNet" v.0 (fields_of phys_net) v.0 refl, append-nil (branch_steps l "RouteBranch" segment v.1.1.0)) refl
+
+-- the same wherever the struct stands
+at_any : {A : Type 0} (f : List Entry → A → List Step) (g : A → List Step) → ((a : List Entry) (v : A) → f a v ≡ g v) → (around : List Entry) (vs : List A) → flat_map (f around) vs ≡ flat_map (f []) vs
+at_any f g same around vs = flat_same (f around) (f []) (λ v. same around v ∙ sym (same [] v)) vs
+
+pub root_steps : (l : Lists) (part : Text) (ps : List (Value ℕ cell_placement)) (ns : List (Value ℕ phys_net)) (is : List (Value ℕ site_instance)) (qs : List (Value ℕ property)) → steps phys_netlist l [] ([], (part, (ps, (ns, (is, (qs, tt))))))
+    ≡ begun "PhysNetlist" ∷ (flat_map (steps cell_placement l []) ps ++ (flat_map (steps phys_net l []) ns ++ (flat_map (steps site_instance l []) is ++ flat_map (steps property l []) qs)))
+unfolding steps part_steps
+root_steps l part ps ns is qs =
+    let here : Entry = record { row = []; lists = [] ∷ [] ∷ [] ∷ [] ∷ [] ∷ [] ∷ []; lengths = 0 ∷ 0 ∷ length ps ∷ length ns ∷ length is ∷ length qs ∷ [] } in
+    rw (at_any (steps cell_placement l) (λ v. own l cell_placement v.0 ++ flat_map (steps pin_mapping l []) v.1.0) (placement_steps l) (here ∷ []) ps,
+    at_any (steps phys_net l) (λ v. own l phys_net v.0 ++ (branch_steps l "RouteBranch" segment v.1.0 ++ branch_steps l "RouteBranch" segment v.1.1.0)) (net_steps l) (here ∷ []) ns,
+    at_any (steps site_instance l) (λ v. own l site_instance v.0) (site_steps l) (here ∷ []) is, at_any (steps property l) (λ v. own l property v.0) (property_steps l) (here ∷ []) qs, append-nil (flat_map (steps property l []) qs)) refl
+
+-- Branches ask item by item, in preorder.
+
+unfoldable pub item_steps : Lists → ℕ × List ℕ → List Step
+item_steps l p = begun "RouteBranch" ∷ ask_row l [] "RouteBranch" p.1 segment p.1
+
+pub in_preorder : (l : Lists) (d : ℕ) (t : Branches (List ℕ)) → branch_steps l "RouteBranch" segment t ≡ flat_map (item_steps l) (preorder d t)
+unfolding item_steps
+in_preorder l d ends = refl
+in_preorder l d (branch row below beside) =
+    let items : List Step = item_steps l (d, row) in
+    let one : branch_steps l "RouteBranch" segment below ++ branch_steps l "RouteBranch" segment beside ≡ flat_map (item_steps l) (preorder (d + 1) below ++ preorder d beside) =
+    rw (in_preorder l (d + 1) below, in_preorder l d beside) (sym (flat_map-append (item_steps l) (preorder (d + 1) below) (preorder d beside))) in
+    append_assoc items (branch_steps l "RouteBranch" segment below) (branch_steps l "RouteBranch" segment beside) ∙ ap (λ (xs : List Step). items ++ xs) one
+
+-- The places of kinds.
+
+abbrev has_kind : List String → String → Bool
+has_kind [] kind = false
+has_kind (k ∷ ks) kind = if same_text (codes k) (codes kind) then true else has_kind ks kind
+
+place-lt : (ks : List String) (kind : String) → has_kind ks kind ≡ true → place_of ks kind < length ks
+place-lt [] kind h = absurd cc
+place-lt (k ∷ ks) kind h = go (same_text (codes k) (codes kind)) h (place-lt ks kind)
+  where
+    go : (b : Bool) → cond b true (has_kind ks kind) ≡ true → (has_kind ks kind ≡ true → place_of ks kind < length ks) → cond b 0 (place_of ks kind + 1) < length (k ∷ ks)
+    go true h later = omega arith
+    go false h later = let i = later h in omega arith
+
+place-same : (ks : List String) (a b : String) → codes a ≡ codes b → place_of ks a ≡ place_of ks b
+place-same [] a b e = refl
+place-same (k ∷ ks) a b e = let later = place-same ks a b e in λ i. cond (same_text (codes k) (e i)) 0 (later i + 1)
+
+same_text-true : (s t : Text) → same_text s t ≡ true → s ≡ t
+same_text-true [] [] h = refl
+same_text-true [] (y ∷ ys) h = absurd cc
+same_text-true (x ∷ xs) [] h = absurd cc
+same_text-true (x ∷ xs) (y ∷ ys) h =
+    let two = and_parts (x == y) (same_text xs ys) h in
+    let one : x ≡ y = eqb-true x y two.0 in
+    let rest = same_text-true xs ys two.1 in
+    ap (λ (n : ℕ). n ∷ xs) one ∙ ap (λ (t : Text). y ∷ t) rest
+
+same_text-refl : (t : Text) → same_text t t ≡ true
+same_text-refl [] = refl
+same_text-refl (x ∷ xs) = rw (eq-eqb x x refl) (same_text-refl xs)
+
+same_of : (s t : Text) → s ≡ t → same_text s t ≡ true
+same_of s t e = subst (λ (u : Text). same_text s u ≡ true) e (same_text-refl s)
+
+place-differs : (ks : List String) (a b : String) → has_kind ks a ≡ true → has_kind ks b ≡ true → place_of ks a ≡ place_of ks b → same_text (codes a) (codes b) ≡ true
+place-differs [] a b h i e = absurd cc
+place-differs (k ∷ ks) a b h i e = go (same_text (codes k) (codes a)) (same_text (codes k) (codes b)) refl refl h i e (place-differs ks a b)
+  where
+    go : (x y : Bool) → same_text (codes k) (codes a) ≡ x → same_text (codes k) (codes b) ≡ y
+        → cond x true (has_kind ks a) ≡ true → cond y true (has_kind ks b) ≡ true → cond x 0 (place_of ks a + 1) ≡ cond y 0 (place_of ks b + 1)
+        → (has_kind ks a ≡ true → has_kind ks b ≡ true → place_of ks a ≡ place_of ks b → same_text (codes a) (codes b) ≡ true) → same_text (codes a) (codes b) ≡ true
+    go true true p q h i e later = same_of (codes a) (codes b) (sym (same_text-true (codes k) (codes a) p) ∙ same_text-true (codes k) (codes b) q)
+    go false false p q h i e later = later h i (omega arith)
+    go true false p q h i e later = absurd (omega arith)
+    go false true p q h i e later = absurd (omega arith)
+
+-- The counts are those of the structs begun.
+
+record AreCounts (counts : List ℕ) (before : List Step) : Type 0 where
+  size : length counts ≡ length phys_kinds
+  each : (kind : String) → has_kind phys_kinds kind ≡ true → slice_index counts (place_of phys_kinds kind) ≡ count_by (begins kind) before
+
+one_more : (counts : List ℕ) (before : List Step) (k : String) → AreCounts counts before → has_kind phys_kinds k ≡ true → length before < 2 ^ 32 - 1 → AreCounts (begin k counts) (before ++ begun k ∷ [])
+one_more counts before k c known few = record {
+  size = length-set counts (place_of phys_kinds k) (min (slice_index counts (place_of phys_kinds k) + 1) (2 ^ 32 - 1)) ∙ c.size;
+  each = λ kind h. go kind h (same_text (codes k) (codes kind)) refl ∙ sym (sum_by_push (λ (s : Step). cond (begins kind s) 1 0) before (begun k));
+}
+  where
+    go : (kind : String) → has_kind phys_kinds kind ≡ true → (b : Bool) → same_text (codes k) (codes kind) ≡ b
+        → slice_index (with_one_more counts (place_of phys_kinds k)) (place_of phys_kinds kind) ≡ count_by (begins kind) before + cond (same_text (codes k) (codes kind)) 1 0
+    go kind h true e =
+        let place : place_of phys_kinds k ≡ place_of phys_kinds kind = place-same phys_kinds k kind (same_text-true (codes k) (codes kind) e) in
+        let here : slice_index counts (place_of phys_kinds k) ≡ count_by (begins kind) before = ap (λ (p : ℕ). slice_index counts p) place ∙ c.each kind h in
+        let inside : place_of phys_kinds k < length counts = omega (arith, place-lt phys_kinds k known, c.size) in
+        let more : min (slice_index counts (place_of phys_kinds k) + 1) (2 ^ 32 - 1) ≡ count_by (begins kind) before + 1 = omega (arith, count_by-le-length (begins kind) before, here) in
+        ap (λ (p : ℕ). slice_index (with_one_more counts (place_of phys_kinds k)) p) (sym place) ∙ get_or-set_same counts (place_of phys_kinds k) _ 0 inside ∙ more ∙ ap (λ (b : Bool). count_by (begins kind) before + cond b 1 0) (sym e)
+    go kind h false e =
+        let apart = λ (p : place_of phys_kinds kind ≡ place_of phys_kinds k). both_ways (same_text (codes k) (codes kind)) e (place-differs phys_kinds k kind known h (sym p)) in
+        let none : count_by (begins kind) before ≡ count_by (begins kind) before + 0 = omega arith in
+        get_or-set_other counts (place_of phys_kinds k) (place_of phys_kinds kind) _ 0 apart ∙ c.each kind h ∙ none ∙ ap (λ (b : Bool). count_by (begins kind) before + cond b 1 0) (sym e)
+
+abbrev IsOfKind : Step → Type 0
+IsOfKind (begun kind) = has_kind phys_kinds kind ≡ true
+IsOfKind (asked kind called fit) = has_kind phys_kinds kind ≡ true
+
+abbrev pub AreOfKinds : List Step → Type 0
+AreOfKinds xs = AllByRecursion IsOfKind xs
+
+-- how many structs the steps begin
+abbrev pub begun_in : List Step → ℕ
+begun_in [] = 0
+begun_in (begun kind ∷ rest) = begun_in rest + 1
+begun_in (asked kind called fit ∷ rest) = begun_in rest
+
+abbrev pub stopped : Result (List ℕ) Item → Option Item
+stopped (Ok counts) = None
+stopped (Err item) = Some item
+
+same_first : (rest : List Step) (counts : List ℕ) (before : List Step) → AreCounts counts before → AreOfKinds rest → length before + begun_in rest ≤ 2 ^ 32 - 1 → stopped (walked counts rest) ≡ first_unfit before rest
+unfolding walked first_unfit
+same_first [] counts before c h few = refl
+same_first (begun k ∷ rest) counts before c h few =
+    same_first rest (begin k counts) (before ++ begun k ∷ []) (one_more counts before k c h.0 (omega arith)) h.1 (omega (arith, length-append before (begun k ∷ [])))
+same_first (asked k called true ∷ rest) counts before c h few = same_first rest counts before c h.1 few
+same_first (asked k called false ∷ rest) counts before c h few =
+    ap (λ (n : ℕ). Some (record { kind = codes k; field = codes called; index = n - 1 })) (c.each k h.0)
+
+zeros : (n i : ℕ) → slice_index (replicate n 0) i ≡ 0
+zeros zero i = refl
+zeros (suc n) zero = refl
+zeros (suc n) (suc i) = zeros n i
+
+-- the walk over all steps of a message finds the first field that is out of its list
+pub finds_first : (rest : List Step) → AreOfKinds rest → begun_in rest ≤ 2 ^ 32 - 1 → stopped (walked (replicate 7 0) rest) ≡ first_unfit [] rest
+finds_first rest h few = same_first rest (replicate 7 0) [] (record { size = refl; each = λ kind h. zeros 7 (place_of phys_kinds kind) }) h (omega arith)
+
+-- The steps of a physical netlist are of kinds that are counted.
+
+begun_on : (xs ys : List Step) → begun_in (xs ++ ys) ≡ begun_in xs + begun_in ys
+begun_on [] ys = omega arith
+begun_on (begun kind ∷ xs) ys = let later = begun_on xs ys in omega (arith, later)
+begun_on (asked kind called fit ∷ xs) ys = begun_on xs ys
+
+kinds_on : (xs ys : List Step) → AreOfKinds xs → AreOfKinds ys → AreOfKinds (xs ++ ys)
+kinds_on [] ys h i = i
+kinds_on (x ∷ xs) ys h i = (h.0, kinds_on xs ys h.1 i)
+
+kinds_each : {A : Type 0} (f : A → List Step) → ((x : A) → AreOfKinds (f x)) → (xs : List A) → AreOfKinds (flat_map f xs)
+kinds_each f one [] = tt
+kinds_each f one (x ∷ xs) = kinds_on (f x) (flat_map f xs) (one x) (kinds_each f one xs)
+
+row_kinds : (l : Lists) (kind : String) (row : List ℕ) (fields : List Field) (ns : List ℕ) → has_kind phys_kinds kind ≡ true → AreOfKinds (ask_row l [] kind row fields ns)
+row_kinds l kind row [] ns h = tt
+row_kinds l kind row (f ∷ fs) [] h = tt
+row_kinds l kind row (f ∷ fs) (n ∷ ns) h = (h, row_kinds l kind row fs ns h)
+
+row_begins : (l : Lists) (kind : String) (row : List ℕ) (fields : List Field) (ns : List ℕ) → begun_in (ask_row l [] kind row fields ns) ≡ 0
+row_begins l kind row [] ns = refl
+row_begins l kind row (f ∷ fs) [] = refl
+row_begins l kind row (f ∷ fs) (n ∷ ns) = row_begins l kind row fs ns

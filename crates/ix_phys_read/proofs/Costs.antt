@@ -121,7 +121,7 @@ text_at_left o slot budget =
     let P : (Text × ℕ) → Type 0 = λ x. x.1 ≤ budget in
     by_test P (nat_lt slot o.pointer_words) _ _ (λ e. text_behind_left o.segments o.segment _ budget) (λ e. omega arith)
 
-weaker : {A E : Type 0} (P Q : A → Type 0) (r : Result A E) → IfOk r P → ((x : A) → P x → Q x) → IfOk r Q
+pub weaker : {A E : Type 0} (P Q : A → Type 0) (r : Result A E) → IfOk r P → ((x : A) → P x → Q x) → IfOk r Q
 weaker P Q (Ok x) h next = next x h
 weaker P Q (Err e) h next = tt
 

@@ -1,4 +1,5 @@
 pub mod Costs
+pub mod Counted
 pub mod Found
 pub mod Lists
 pub mod NetTrees
@@ -8,3 +9,4 @@ pub mod Stacks
 pub mod Steps
 pub mod Stops
 pub mod Trees
+pub mod Whole

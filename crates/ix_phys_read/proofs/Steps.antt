@@ -12,7 +12,7 @@ use Rattle.ix_message.specs.Names.{same_text}
 use Rattle.ix_message.specs.Phys.{pin_mapping, cell_placement, phys_net, site_instance, property, phys_netlist, segment}
 use Rattle.ix_message.specs.Shape.{Text, Field, Kind, Struct, Pointers, Branches, Value, Parts, field, flag, nothing, choice, name, by_tag, struct_of, no_more, ends, branch, preorder}
 use Rattle.ix_device_read.specs.Finish.{place_of, with_one_more, field_at}
-use Rattle.ix_phys_read.specs.Walked.{phys_kinds, begin, walked}
+use Rattle.ix_phys_read.specs.Walked.{phys_kinds, begin, walked, begun_in}
 use Rattle.std.proofs.lemmas.Grind.{flat_map-append}
 
 -- Steps one after another.
@@ -64,7 +64,7 @@ flat_same : {A B : Type 0} (f g : A → List B) → ((x : A) → f x ≡ g x) �
 flat_same f g same [] = refl
 flat_same f g same (x ∷ xs) = rw (same x, flat_same f g same xs) refl
 
-abbrev fields_of : Struct → List Field
+abbrev pub fields_of : Struct → List Field
 fields_of (struct_of kind fields ps) = fields
 
 -- what a struct asks of its own row
@@ -131,7 +131,7 @@ in_preorder l d (branch row below beside) =
 
 -- The places of kinds.
 
-abbrev has_kind : List String → String → Bool
+abbrev pub has_kind : List String → String → Bool
 has_kind [] kind = false
 has_kind (k ∷ ks) kind = if same_text (codes k) (codes kind) then true else has_kind ks kind
 
@@ -201,18 +201,12 @@ one_more counts before k c known few = record {
         let none : count_by (begins kind) before ≡ count_by (begins kind) before + 0 = omega arith in
         get_or-set_other counts (place_of phys_kinds k) (place_of phys_kinds kind) _ 0 apart ∙ c.each kind h ∙ none ∙ ap (λ (b : Bool). count_by (begins kind) before + cond b 1 0) (sym e)
 
-abbrev IsOfKind : Step → Type 0
+abbrev pub IsOfKind : Step → Type 0
 IsOfKind (begun kind) = has_kind phys_kinds kind ≡ true
 IsOfKind (asked kind called fit) = has_kind phys_kinds kind ≡ true
 
 abbrev pub AreOfKinds : List Step → Type 0
 AreOfKinds xs = AllByRecursion IsOfKind xs
-
--- how many structs the steps begin
-abbrev pub begun_in : List Step → ℕ
-begun_in [] = 0
-begun_in (begun kind ∷ rest) = begun_in rest + 1
-begun_in (asked kind called fit ∷ rest) = begun_in rest
 
 abbrev pub stopped : Result (List ℕ) Item → Option Item
 stopped (Ok counts) = None
@@ -238,25 +232,25 @@ finds_first rest h few = same_first rest (replicate 7 0) [] (record { size = ref
 
 -- The steps of a physical netlist are of kinds that are counted.
 
-begun_on : (xs ys : List Step) → begun_in (xs ++ ys) ≡ begun_in xs + begun_in ys
+pub begun_on : (xs ys : List Step) → begun_in (xs ++ ys) ≡ begun_in xs + begun_in ys
 begun_on [] ys = omega arith
 begun_on (begun kind ∷ xs) ys = let later = begun_on xs ys in omega (arith, later)
 begun_on (asked kind called fit ∷ xs) ys = begun_on xs ys
 
-kinds_on : (xs ys : List Step) → AreOfKinds xs → AreOfKinds ys → AreOfKinds (xs ++ ys)
+pub kinds_on : (xs ys : List Step) → AreOfKinds xs → AreOfKinds ys → AreOfKinds (xs ++ ys)
 kinds_on [] ys h i = i
 kinds_on (x ∷ xs) ys h i = (h.0, kinds_on xs ys h.1 i)
 
-kinds_each : {A : Type 0} (f : A → List Step) → ((x : A) → AreOfKinds (f x)) → (xs : List A) → AreOfKinds (flat_map f xs)
+pub kinds_each : {A : Type 0} (f : A → List Step) → ((x : A) → AreOfKinds (f x)) → (xs : List A) → AreOfKinds (flat_map f xs)
 kinds_each f one [] = tt
 kinds_each f one (x ∷ xs) = kinds_on (f x) (flat_map f xs) (one x) (kinds_each f one xs)
 
-row_kinds : (l : Lists) (kind : String) (row : List ℕ) (fields : List Field) (ns : List ℕ) → has_kind phys_kinds kind ≡ true → AreOfKinds (ask_row l [] kind row fields ns)
+pub row_kinds : (l : Lists) (kind : String) (row : List ℕ) (fields : List Field) (ns : List ℕ) → has_kind phys_kinds kind ≡ true → AreOfKinds (ask_row l [] kind row fields ns)
 row_kinds l kind row [] ns h = tt
 row_kinds l kind row (f ∷ fs) [] h = tt
 row_kinds l kind row (f ∷ fs) (n ∷ ns) h = (h, row_kinds l kind row fs ns h)
 
-row_begins : (l : Lists) (kind : String) (row : List ℕ) (fields : List Field) (ns : List ℕ) → begun_in (ask_row l [] kind row fields ns) ≡ 0
+pub row_begins : (l : Lists) (kind : String) (row : List ℕ) (fields : List Field) (ns : List ℕ) → begun_in (ask_row l [] kind row fields ns) ≡ 0
 row_begins l kind row [] ns = refl
 row_begins l kind row (f ∷ fs) [] = refl
 row_begins l kind row (f ∷ fs) (n ∷ ns) = row_begins l kind row fs ns

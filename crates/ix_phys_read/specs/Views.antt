@@ -44,3 +44,15 @@ abbrev pub Takes : {X Y : Type 0} → (X → Y) → Result X Stop → List ℕ �
     → Type 0
 Takes view (Ok x) now made steps = (made ≡ view x) × (steps ≡ Ok now)
 Takes view (Err e) now made steps = Stops e steps
+
+-- The fault is that this field of the struct of this kind and with this index is out of its list.
+-- Want of memory may be told at any time.
+abbrev pub IsFieldAt : ℕ → ℕ → ℕ → Place → Type 0
+IsFieldAt kind field index (Field k f i) = (k ≡ kind_word kind) × (f ≡ field_word kind field)
+    × (i ≡ index)
+IsFieldAt kind field index _ = ⊥
+
+abbrev pub TellsField : ℕ → ℕ → ℕ → ReadFault → Type 0
+TellsField kind field index NoMemory = Unit {0}
+TellsField kind field index (Frame f) = ⊥
+TellsField kind field index (Index p) = IsFieldAt kind field index p

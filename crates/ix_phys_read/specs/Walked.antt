@@ -1,6 +1,6 @@
 -- The steps of a reading, walked with a count for each kind of struct, as the code does.
 use Prim.Native.String.{String}
-use Rattle.std.specs.Prelude.{ℕ, List, [], ◌∷◌, map, true, false, codes, Result, Ok, Err}
+use Rattle.std.specs.Prelude.{ℕ, ◌+◌, List, [], ◌∷◌, map, true, false, codes, Result, Ok, Err}
 use Rattle.ix_message.specs.Indexes.{Item, Step, begun, asked}
 use Rattle.ix_message.specs.Phys.{pin_mapping, cell_placement, phys_net, site_instance, property}
 use Rattle.ix_message.specs.Phys.{phys_netlist, segment}
@@ -31,3 +31,9 @@ walked counts (begun kind ∷ rest) = walked (begin kind counts) rest
 walked counts (asked kind called true ∷ rest) = walked counts rest
 walked counts (asked kind called false ∷ rest) = Err (field_at counts (place_of phys_kinds kind)
     (codes kind) (codes called))
+
+-- how many structs the steps begin
+abbrev pub begun_in : List Step → ℕ
+begun_in [] = 0
+begun_in (begun kind ∷ rest) = begun_in rest + 1
+begun_in (asked kind called fits ∷ rest) = begun_in rest

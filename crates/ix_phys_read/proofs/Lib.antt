@@ -8,5 +8,7 @@ pub mod Rows
 pub mod Stacks
 pub mod Steps
 pub mod Stops
+pub mod Texts
 pub mod Trees
 pub mod Whole
+pub mod Words

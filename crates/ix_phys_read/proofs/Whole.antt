@@ -274,3 +274,32 @@ whole_passed split o b after left few table rest =
       structs = λ l. let h = root_structs o after r l in omega arith;
       texts = table_few o b after few (table_split split o b (omega arith) ∙ rw table refl);
     }
+
+-- A message whose root is known.
+
+rooted : (all : Segments) (root : Object × ℕ) → root_of all (whole_budget all) ≡ Ok root → numbers_in_segments phys_netlist all ≡ (root_at phys_netlist root.0 root.1 >>= λ found. Ok found.0)
+unfolding numbers_in_segments
+rooted all root is = rw is refl
+
+pub no_root : (all : Segments) (f : FrameFault) → root_of all (whole_budget all) ≡ Err f → numbers_in_segments phys_netlist all ≡ Err f
+unfolding numbers_in_segments
+no_root all f is = rw is refl
+
+pub no_table : ReadingsSplit → (all : Segments) (o : Object) (b : ℕ) (f : FrameFault) → b ≤ endless → root_of all (whole_budget all) ≡ Ok (o, b) → texts_passed o 1 b ≡ Err f → numbers_in_segments phys_netlist all ≡ Err f
+unfolding root_at
+no_table split all o b f le is h = rooted all (o, b) is ∙ rw (table_split split o b le, h) refl
+
+pub no_value : ReadingsSplit → (all : Segments) (o : Object) (b left : ℕ) (e : ReadFault) → b ≤ endless → root_of all (whole_budget all) ≡ Ok (o, b) → texts_passed o 1 b ≡ Ok left → Fails e (left_at phys_netlist o left) → Fails e (numbers_in_segments phys_netlist all)
+unfolding root_at
+no_value split all o b left Memory le is passed h = tt
+no_value split all o b left (Index p) le is passed h = h
+no_value split all o b left (Frame f) le is passed h =
+    let less : left ≤ b = has_it (λ n. n ≤ b) (texts_passed o 1 b) left passed (texts_passed_left o 1 b) in
+    rooted all (o, b) is ∙ rw (table_split split o b le, passed, split phys_netlist o left (omega arith), h) refl
+
+pub whole_read : ReadingsSplit → (all : Segments) (o : Object) (b left after : ℕ) → b ≤ endless → root_of all (whole_budget all) ≡ Ok (o, b) → texts_passed o 1 b ≡ Ok left → left_at phys_netlist o left ≡ Ok after
+    → numbers_in_segments phys_netlist all ≡ Ok (table_said phys_netlist o, said phys_netlist o)
+unfolding root_at
+whole_read split all o b left after le is passed h =
+    let less : left ≤ b = has_it (λ n. n ≤ b) (texts_passed o 1 b) left passed (texts_passed_left o 1 b) in
+    rooted all (o, b) is ∙ rw (table_split split o b le, passed, split phys_netlist o left (omega arith), h) refl

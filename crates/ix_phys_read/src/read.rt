@@ -33,9 +33,6 @@ use std::alloc::Global;
 /// The slot of the string table.
 const TABLE_SLOT: u32 = 1;
 
-/// The names of a route branch's fields, which is no struct of the table.
-const BRANCH_FIELDS: [&str; 6] = ["kind_tag", "first", "second", "third", "forward", "branches"];
-
 /// The root of a frame whose message has no frame fault, else the first one.
 fn pass_netlist<'a>(alloc: Global, frame: &Frame<'a>) -> Result<Obj<'a>, ReadFault>
     ensures message { PassesMessage phys_netlist result
@@ -51,7 +48,7 @@ fn pass_netlist<'a>(alloc: Global, frame: &Frame<'a>) -> Result<Obj<'a>, ReadFau
     Ok(root)
 }
 
-/// The name of a kind of structs, and of one of its fields.
+/// The name of a kind of structs.
 fn kind_name(kind: usize) -> &'static str
     ensures { result.now ≡ kind_word kind }
 {
@@ -62,15 +59,28 @@ fn kind_name(kind: usize) -> &'static str
     }
 }
 
-/// The name of a field of a kind of structs.
+/// The name of a field of a route branch, empty where there is none.
+#[tactic(auto, unfolding(crate::specs::Views::field_word))]
+fn branch_field(field: usize) -> &'static str
+    ensures { result.now ≡ field_word 6 field }
+{
+    match field {
+        0 => "kind_tag",
+        1 => "first",
+        2 => "second",
+        3 => "third",
+        4 => "forward",
+        5 => "branches",
+        _ => "",
+    }
+}
+
+/// The name of a field of a kind of structs, empty where there is none.
 fn field_name(kind: usize, field: usize) -> &'static str
     ensures { result.now ≡ field_word kind field }
 {
     if kind == BRANCH {
-        match BRANCH_FIELDS.get(field) {
-            Some(name) => *name,
-            None => "",
-        }
+        branch_field(field)
     } else {
         phys_table().field(kind, field)
     }

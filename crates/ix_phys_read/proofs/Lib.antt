@@ -9,6 +9,7 @@ pub mod Stacks
 pub mod Steps
 pub mod Stops
 pub mod Texts
+pub mod Told
 pub mod Trees
 pub mod Whole
 pub mod Words

@@ -1,16 +1,16 @@
 -- Taking the structs of a list one after the other.
-use Rattle.std.proofs.Common.{◌≡◌, ◌≤◌, ◌<◌, ◌+◌, ◌-◌, ◌++◌, ◌∙◌, ℕ, zero, suc, List, [], ◌∷◌, map, Result, Ok, Err, refl, sym, ap, arith, append_assoc}
+use Rattle.std.proofs.Common.{◌≡◌, ◌≤◌, ◌<◌, ◌+◌, ◌-◌, ◌++◌, ◌∙◌, ℕ, suc, List, [], ◌∷◌, map, Ok, refl, sym, ap, arith, append_assoc}
 use Rattle.std.specs.List.{flat_map}
 use Rattle.std.proofs.lemmas.List.{append-nil, map_push}
 use Rattle.ix_frame.specs.Objects.{element_of}
 use Rattle.ix_frame.specs.Target.{Object, Elements}
-use Rattle.ix_message.specs.Indexes.{Item, Step}
+use Rattle.ix_message.specs.Indexes.{Step}
 use Rattle.ix_schema.specs.Said.{each_said}
 use Rattle.ix_phys_read.specs.Views.{Stops}
 use Rattle.ix_phys_read.specs.Walked.{walked}
 use Rattle.ix_phys_read.specs.declared.stop.Stop.{Stop}
 use Rattle.ix_phys_read.proofs.Steps.{walked_then, walked_fails}
-use Rattle.ix_phys_read.proofs.Stops.{stops_on, stops_first}
+use Rattle.ix_phys_read.proofs.Stops.{stops_on}
 
 -- the i-th struct of a list, and those after it
 said_next : {A : Type 0} (say : Object → A) (l : Elements) (i : ℕ) → i < l.count → each_said say (l.count - i) l i ≡ say (element_of l i) ∷ each_said say (l.count - (i + 1)) l (i + 1)

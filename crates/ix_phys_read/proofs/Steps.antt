@@ -7,11 +7,11 @@ use Rattle.std.proofs.lemmas.Bool.{both_ways, and_parts, eqb-true}
 use Rattle.std.proofs.lemmas.List.{append-nil, length-set, length-append, get_or-set_same, get_or-set_other}
 use Rattle.std.proofs.lemmas.List.Sums.{sum_by_push, count_by-le-length}
 use Rattle.ix_frame.specs.Result.{◌>>=◌}
-use Rattle.ix_message.specs.Indexes.{Item, Step, Entry, Lists, begun, asked, ask_row, fits, begins, first_unfit, steps, part_steps, branch_steps, lists_of, lengths_of}
+use Rattle.ix_message.specs.Indexes.{Item, Step, Entry, Lists, begun, asked, ask_row, fits, begins, first_unfit, steps, part_steps, branch_steps}
 use Rattle.ix_message.specs.Names.{same_text}
 use Rattle.ix_message.specs.Phys.{pin_mapping, cell_placement, phys_net, site_instance, property, phys_netlist, segment}
-use Rattle.ix_message.specs.Shape.{Text, Field, Kind, Struct, Pointers, Branches, Value, Parts, field, flag, nothing, choice, name, by_tag, struct_of, no_more, ends, branch, preorder}
-use Rattle.ix_device_read.specs.Finish.{place_of, with_one_more, field_at}
+use Rattle.ix_message.specs.Shape.{Text, Field, Kind, Struct, Branches, Value, flag, nothing, choice, name, by_tag, struct_of, ends, branch, preorder}
+use Rattle.ix_device_read.specs.Finish.{place_of, with_one_more}
 use Rattle.ix_phys_read.specs.Walked.{phys_kinds, begin, walked, begun_in}
 use Rattle.std.proofs.lemmas.Grind.{flat_map-append}
 

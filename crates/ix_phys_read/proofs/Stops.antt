@@ -1,5 +1,5 @@
 -- What stops a part stops the whole.
-use Rattle.std.proofs.Common.{◌≡◌, ℕ, List, ◌++◌, Result, Ok, Err}
+use Rattle.std.proofs.Common.{◌≡◌, ℕ, List, ◌++◌, Result, Err}
 use Rattle.ix_message.specs.Indexes.{Item, Step}
 use Rattle.ix_phys_read.specs.Views.{Stops, kind_word, field_word}
 use Rattle.ix_phys_read.specs.Walked.{walked}

@@ -1,9 +1,8 @@
 -- The names of structs and fields, by the table and by the kinds that are counted.
-use Rattle.std.proofs.Common.{◌≡◌, ◌≤◌, ◌∙◌, ℕ, zero, suc, [], refl, ap, arith}
+use Rattle.std.proofs.Common.{◌≡◌, ◌≤◌, ℕ, zero, suc, [], refl, arith}
 use Rattle.ix_schema.specs.Named.{kind_text, field_text}
 use Rattle.ix_schema.specs.Structs.{phys_structs}
 use Rattle.ix_phys_read.specs.Views.{kind_word, field_word}
-use Rattle.ix_phys_read.specs.Walked.{counted_structs}
 
 pub kind_in_table : (k : ℕ) → (k ≡ 6 → ⊥) → kind_text phys_structs k ≡ kind_word k
 unfolding kind_word

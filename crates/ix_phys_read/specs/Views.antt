@@ -1,5 +1,5 @@
 -- What the values of this crate are, and what its calls tell.
-use Rattle.std.specs.Prelude.{◌≡◌, ℕ, List, [], map, Bool, true, false, Result, Ok, Err}
+use Rattle.std.specs.Prelude.{◌≡◌, ℕ, List, map, Bool, true, false, Result, Ok, Err}
 use Rattle.ix_message.specs.Indexes.{Item}
 use Rattle.ix_message.specs.Names.{Datum}
 use Rattle.ix_message.specs.Shape.{Text}

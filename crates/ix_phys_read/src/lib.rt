@@ -5,6 +5,7 @@ mod at;
 mod branches;
 mod cells;
 mod context;
+mod laws;
 mod names;
 mod netlist;
 mod nets;
@@ -14,4 +15,5 @@ mod stop;
 mod take;
 mod walk;
 
+pub use laws::{files_read_as_their_segments, written_reads_again};
 pub use read::read_phys;

@@ -74,8 +74,7 @@ def grown(forest, numbers):
     for below in forest:
         n = next(numbers)
         tree = {"kind": n % 4, "first": f"a{n}", "second": f"b{n}", "forward": n // 2 % 2}
-        if n % 4 != 1:
-            tree["third"] = f"c{n}"
+        tree["third"] = 0 if n % 4 == 1 else f"c{n}"
         trees.append(dict(tree, branches=grown(below, numbers)))
     return trees
 
@@ -99,7 +98,7 @@ WHOLE = {
         {"cellName": "c1", "type": "DFF", "site": "S1", "bel": "FF", "pinMap": [dict(PIN, cellPin="D", bel="FF", belPin="D")]},
     ],
     "physNets": [
-        {"name": "n0", "type": 0, "sources": [dict(BRANCH, branches=[dict(BRANCH, kind=1, third="W1", forward=0)])]},
+        {"name": "n0", "type": 0, "sources": [dict(BRANCH, branches=[dict(BRANCH, kind=1, third=0, forward=0)])]},
         {"name": "n1", "type": 2, "sources": [], "stubs": [dict(BRANCH, kind=0), dict(BRANCH, kind=3, forward=0)]},
     ],
     "siteInsts": [{"site": "S0", "type": "SLICE"}, {"site": "S1", "type": "SLICE"}],
@@ -107,8 +106,22 @@ WHOLE = {
 }
 
 
+def used(structs, kind, value, texts):
+    """Adds the names of a struct to the texts, each where it is first used; that of a site pin's third isn't one."""
+    fields = structs[kind]
+    for field in [f for f in fields if f.is_data and f.is_name]:
+        text = value.get(field.name)
+        if isinstance(text, str) and text not in texts:
+            texts.append(text)
+    for field in [f for f in fields if f.form[5:-1] in structs]:
+        for inner in value.get(field.name) or []:
+            used(structs, field.form[5:-1], inner, texts)
+
+
 def encoded(value):
-    return message.encode(SCHEMA, value)
+    texts = []
+    used(message.read_schema(SCHEMA)[0], "PhysNetlist", value, texts)
+    return message.encode(SCHEMA, {"strList": texts, **value})
 
 
 def places(file):
@@ -182,7 +195,6 @@ def told(value, how="as it was"):
 
 def chain():
     value = {"physNets": [{"name": "n", "sources": [dict(BRANCH, kind=1, third=0, forward=0)]}]}
-    value["strList"] = ["n", "T0", "W0"]
     return "a chain of 100,000", encoded(value), 100_000
 
 

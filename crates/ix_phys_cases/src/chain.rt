@@ -24,7 +24,7 @@ pub fn chain_of(alloc: Global, file: &[u8], many: u32) -> Result<Vec<u8>, AllocE
         bytes.extend_from_slice(&file[data..front])?;
     }
     bytes.extend_from_slice(&[0; 8])?;
-    let words = (bytes.len() / 8).saturating_sub(1) as u32;
+    let words = u32::try_from((bytes.len() / 8).saturating_sub(1)).unwrap_or(0);
     for (i, byte) in words.to_le_bytes().iter().enumerate() {
         if let Some(place) = bytes.get_mut(4 + i) {
             *place = *byte;

@@ -2,7 +2,8 @@
 
 use ix_num::NameId;
 use ix_rec::{
-    BranchKind, CellPlacement, Forest, NetType, Phys, PhysNet, PinMapping, Property, SiteInstance,
+    BranchKind, CellPlacement, Forest, NetType, Phys, PhysNet, PinMapping, Property, Segment,
+    SiteInstance,
 };
 use ix_strings::Names;
 use std::alloc::AllocError;
@@ -56,19 +57,27 @@ fn word_of_kind(kind: BranchKind) -> &'static str {
     }
 }
 
+fn put_branch(
+    text: &mut String,
+    names: &Names,
+    depth: u32,
+    segment: &Segment,
+) -> Result<(), AllocError> {
+    let word = word_of_kind(segment.kind);
+    write!(text, " ({depth} {word}")?;
+    put_names(text, names, &[segment.first, segment.second])?;
+    if segment.kind != BranchKind::SitePin {
+        put_names(text, names, &[segment.third])?;
+    }
+    if segment.forward {
+        text.push_str(" forward")?;
+    }
+    text.push_str(")")
+}
+
 fn put_forest(text: &mut String, names: &Names, forest: &Forest) -> Result<(), AllocError> {
-    for i in 0..forest.len() {
-        let branch = forest.at(i);
-        let segment = branch.item;
-        write!(text, " ({} {}", branch.depth, word_of_kind(segment.kind))?;
-        put_names(text, names, &[segment.first, segment.second])?;
-        if segment.kind != BranchKind::SitePin {
-            put_names(text, names, &[segment.third])?;
-        }
-        if segment.forward {
-            text.push_str(" forward")?;
-        }
-        text.push_str(")")?;
+    for branch in forest.as_slice() {
+        put_branch(text, names, branch.depth, &branch.item)?;
     }
     Ok(())
 }
@@ -85,7 +94,8 @@ fn put_nets(text: &mut String, names: &Names, nets: &[PhysNet]) -> Result<(), Al
     for net in nets {
         text.push_str("; net")?;
         put_names(text, names, &[net.name])?;
-        write!(text, " {}", word_of_type(net.ty))?;
+        let word = word_of_type(net.ty);
+        write!(text, " {word}")?;
         put_forest(text, names, &net.sources)?;
         text.push_str(" stubs")?;
         put_forest(text, names, &net.stubs)?;

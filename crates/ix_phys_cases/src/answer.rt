@@ -54,12 +54,7 @@ fn put_told(text: &mut String, line: &str, names: &Names, phys: &Phys) -> Result
 }
 
 /// Whether a file is read as a netlist that is told so.
-fn is_told_so(
-    alloc: Global,
-    line: &str,
-    file: &[u8],
-    wanted: &str,
-) -> Result<bool, AllocError> {
+fn is_told_so(alloc: Global, line: &str, file: &[u8], wanted: &str) -> Result<bool, AllocError> {
     let mut names = Names::new(alloc);
     let mut text = String::new(alloc);
     match read(alloc, file, &mut names) {
@@ -102,12 +97,7 @@ fn put_again(
 }
 
 /// Reads the file of a case, and writes what it is.
-fn put_case(
-    alloc: Global,
-    text: &mut String,
-    line: &str,
-    file: &[u8],
-) -> Result<(), AllocError> {
+fn put_case(alloc: Global, text: &mut String, line: &str, file: &[u8]) -> Result<(), AllocError> {
     let mut names = Names::new(alloc);
     match read(alloc, file, &mut names) {
         Ok(phys) => put_again(alloc, text, line, file, &names, &phys),

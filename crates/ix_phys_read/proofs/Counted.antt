@@ -141,5 +141,8 @@ root_kinds l part ps ns is qs =
     let n = flat_map (steps phys_net l []) ns in
     let i = flat_map (steps site_instance l []) is in
     let q = flat_map (steps property l []) qs in
-    subst AreOfKinds (sym (root_steps l part ps ns is qs)) (refl, kinds_on p (n ++ (i ++ q)) (kinds_each (steps cell_placement l []) (placement_kinds l) ps) (kinds_on n (i ++ q) (kinds_each (steps phys_net l []) (net_kinds l) ns)
-    (kinds_on i q (kinds_each (steps site_instance l []) (site_kinds l) is) (kinds_each (steps property l []) (property_kinds l) qs))))
+    subst AreOfKinds (sym (root_steps l part ps ns is qs)) (
+      refl,
+      kinds_on p (n ++ (i ++ q)) (kinds_each (steps cell_placement l []) (placement_kinds l) ps) (kinds_on n (i ++ q) (kinds_each (steps phys_net l []) (net_kinds l) ns)
+          (kinds_on i q (kinds_each (steps site_instance l []) (site_kinds l) is) (kinds_each (steps property l []) (property_kinds l) qs))),
+    )

@@ -93,8 +93,11 @@ pub placement_steps : (l : Lists) (around : List Entry) (v : Value ℕ cell_plac
 unfolding steps part_steps own
 placement_steps l around v =
     let here : Entry = record { row = v.0; lists = [] ∷ []; lengths = length v.1.0 ∷ [] } in
-    rw (asked_anywhere l (here ∷ around) [] "CellPlacement" v.0 (fields_of cell_placement) v.0 refl, append-nil (flat_map (steps pin_mapping l (here ∷ around)) v.1.0),
-    flat_same (steps pin_mapping l (here ∷ around)) (steps pin_mapping l []) (λ p. pin_steps l (here ∷ around) p ∙ sym (pin_steps l [] p)) v.1.0) refl
+    rw (
+      asked_anywhere l (here ∷ around) [] "CellPlacement" v.0 (fields_of cell_placement) v.0 refl,
+      append-nil (flat_map (steps pin_mapping l (here ∷ around)) v.1.0),
+      flat_same (steps pin_mapping l (here ∷ around)) (steps pin_mapping l []) (λ p. pin_steps l (here ∷ around) p ∙ sym (pin_steps l [] p)) v.1.0,
+    ) refl
 
 pub net_steps : (l : Lists) (around : List Entry) (v : Value ℕ phys_net) → steps phys_net l around v ≡ own l phys_net v.0 ++ (branch_steps l "RouteBranch" segment v.1.0 ++ branch_steps l "RouteBranch" segment v.1.1.0)
 unfolding steps part_steps own
@@ -111,9 +114,13 @@ pub root_steps : (l : Lists) (part : Text) (ps : List (Value ℕ cell_placement)
 unfolding steps part_steps
 root_steps l part ps ns is qs =
     let here : Entry = record { row = []; lists = [] ∷ [] ∷ [] ∷ [] ∷ [] ∷ [] ∷ []; lengths = 0 ∷ 0 ∷ length ps ∷ length ns ∷ length is ∷ length qs ∷ [] } in
-    rw (at_any (steps cell_placement l) (λ v. own l cell_placement v.0 ++ flat_map (steps pin_mapping l []) v.1.0) (placement_steps l) (here ∷ []) ps,
-    at_any (steps phys_net l) (λ v. own l phys_net v.0 ++ (branch_steps l "RouteBranch" segment v.1.0 ++ branch_steps l "RouteBranch" segment v.1.1.0)) (net_steps l) (here ∷ []) ns,
-    at_any (steps site_instance l) (λ v. own l site_instance v.0) (site_steps l) (here ∷ []) is, at_any (steps property l) (λ v. own l property v.0) (property_steps l) (here ∷ []) qs, append-nil (flat_map (steps property l []) qs)) refl
+    rw (
+      at_any (steps cell_placement l) (λ v. own l cell_placement v.0 ++ flat_map (steps pin_mapping l []) v.1.0) (placement_steps l) (here ∷ []) ps,
+      at_any (steps phys_net l) (λ v. own l phys_net v.0 ++ (branch_steps l "RouteBranch" segment v.1.0 ++ branch_steps l "RouteBranch" segment v.1.1.0)) (net_steps l) (here ∷ []) ns,
+      at_any (steps site_instance l) (λ v. own l site_instance v.0) (site_steps l) (here ∷ []) is,
+      at_any (steps property l) (λ v. own l property v.0) (property_steps l) (here ∷ []) qs,
+      append-nil (flat_map (steps property l []) qs),
+    ) refl
 
 -- Branches ask item by item, in preorder.
 

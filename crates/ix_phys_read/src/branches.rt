@@ -31,12 +31,7 @@ struct Open<'a> {
 }
 
 /// Puts a list of which so many branches were taken on top of the stack.
-fn put<'a>(
-    stack: &mut Vec<Open<'a>>,
-    list: List<'a>,
-    next: u32,
-    depth: u32,
-) -> Result<(), Memory>
+fn put<'a>(stack: &mut Vec<Open<'a>>, list: List<'a>, next: u32, depth: u32) -> Result<(), Memory>
     ensures { OnOk result (stack.new.items ≡ stack.old.items ++ record {
       list = list.entry;
       next = next;

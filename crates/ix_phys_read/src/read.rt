@@ -142,11 +142,7 @@ fn take_named(
 /// is wanting, and each name keeps its number.
 ///
 /// The third name of a site pin isn't looked at; its second one stands there in the record.
-pub fn read_phys(
-    alloc: Global,
-    frame: &Frame<'_>,
-    names: &mut Names,
-) -> Result<Phys, ReadFault>
+pub fn read_phys(alloc: Global, frame: &Frame<'_>, names: &mut Names) -> Result<Phys, ReadFault>
     requires { length names.old + 2 ^ 28 + 66 < 2 ^ 32 - 1 }
     ensures reading { IsReading (phys_record names.new) result
         (reading_in_segments phys_netlist (segments_of frame.now)) }

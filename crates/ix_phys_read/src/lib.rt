@@ -1,7 +1,6 @@
 //! The reader of physical netlists.
 #![tactic(auto)]
 
-mod at;
 mod branches;
 mod cells;
 mod context;
@@ -10,8 +9,5 @@ mod netlist;
 mod nets;
 mod read;
 mod segment;
-mod stop;
-mod take;
-mod walk;
 
 pub use read::read_phys;

@@ -1,17 +1,16 @@
 -- Lists of branches whose reading finds no fault, branch by branch.
-use Rattle.std.proofs.Common.{◌≡◌, ◌≤◌, ◌<◌, ◌+◌, ◌-◌, ℕ, zero, suc, List, length, Result, Ok, Err, refl, sym, ap, subst, ◌∙◌, arith}
+use Rattle.std.proofs.Common.{◌≡◌, ◌≤◌, ◌<◌, ◌+◌, ◌-◌, ℕ, zero, suc, List, length, Result, Ok, Err, refl, sym, ap, subst, arith}
 use Rattle.std.specs.Prelude.{IfOk}
 use Rattle.std.proofs.lemmas.List.{length-append}
 use Rattle.ix_num.specs.declared.fault.FrameFault.{FrameFault}
 use Rattle.ix_frame.specs.Objects.{elements_at, element_of}
 use Rattle.ix_frame.specs.Result.{◌>>=◌}
-use Rattle.ix_frame.specs.Sound.{endless, found_or, sound_elements}
-use Rattle.ix_frame.specs.Target.{Object, Elements}
-use Rattle.ix_message.specs.Phys.{segment, phys_net}
-use Rattle.ix_message.specs.Reading.{row_at, branches_from, value_at, parts_at}
+use Rattle.ix_frame.specs.Sound.{found_or, sound_elements}
+use Rattle.ix_frame.specs.Target.{Elements}
+use Rattle.ix_message.specs.Phys.{segment}
+use Rattle.ix_message.specs.Reading.{row_at, branches_from}
 use Rattle.ix_message.specs.Shape.{Branches, ends, branch, preorder}
-use Rattle.ix_schema.specs.Said.{said, parts_said, branches_said}
-use Rattle.ix_phys_read.specs.Sound.{most_cost, IsSound, AreSound}
+use Rattle.ix_phys_read.specs.Sound.{most_cost, AreSound}
 use Rattle.ix_phys_read.proofs.Costs.{elements_at_left, branches_left, branches_in}
 use Rattle.ix_phys_read.proofs.Found.{elements_sound}
 

@@ -1,15 +1,15 @@
 -- Taking the branches of a list with a stack of the lists that aren't done, the last on top.
-use Rattle.std.proofs.Common.{◌≡◌, ◌≤◌, ◌<◌, ◌+◌, ◌-◌, ◌*◌, ℕ, zero, suc, List, [], ◌∷◌, ◌++◌, map, length, Result, Ok, Err, refl, sym, ap, subst, ◌∙◌, append_assoc, arith}
-use Rattle.std.specs.List.{flat_map, All}
+use Rattle.std.proofs.Common.{◌≡◌, ◌≤◌, ◌<◌, ◌+◌, ℕ, suc, List, [], ◌∷◌, ◌++◌, map, length, Ok, Err, refl, sym, ap, subst, ◌∙◌, append_assoc, arith}
+use Rattle.std.specs.List.{flat_map}
 use Rattle.std.proofs.lemmas.List.{append-nil, map-append, length-map, length-append}
 use Rattle.ix_frame.specs.Objects.{element_of}
 use Rattle.ix_frame.specs.Sound.{sound_elements}
 use Rattle.ix_frame.specs.Views.{elements_of}
-use Rattle.ix_message.specs.Indexes.{Item, Lists, Step, begun, ask_row, branch_steps}
+use Rattle.ix_message.specs.Indexes.{Item, Lists, branch_steps}
 use Rattle.ix_message.specs.Names.{Datum, branches_map, data_of}
 use Rattle.ix_message.specs.Phys.{segment}
 use Rattle.ix_message.specs.Reading.{row_at}
-use Rattle.ix_message.specs.Shape.{Text, Branches, ends, branch, preorder}
+use Rattle.ix_message.specs.Shape.{Text, Branches, ends, preorder}
 use Rattle.ix_phys_write.specs.Record.{segment_row}
 use Rattle.ix_phys_write.specs.Trees.{trees_at}
 use Rattle.ix_rec.specs.Forest.{next_limit, limit_after, depths, StepsWithin}

@@ -1,6 +1,5 @@
 -- The whole reading: from the first pass to what is told.
-use Rattle.std.proofs.Common.{◌≡◌, ◌≤◌, ◌<◌, ◌+◌, ◌-◌, ◌^◌, ◌++◌, ◌∙◌, ℕ, zero, suc, List, [], ◌∷◌, map, length, replicate, Option, Some, None, Result, Ok, Err, refl, sym, ap, subst, arith}
-use Rattle.std.specs.Prelude.{IfOk}
+use Rattle.std.proofs.Common.{◌≡◌, ◌≤◌, ◌<◌, ◌+◌, ◌++◌, ◌∙◌, ℕ, zero, suc, List, [], ◌∷◌, length, Result, Ok, Err, refl, sym, ap, subst, arith}
 use Rattle.std.specs.List.{flat_map}
 use Rattle.ix_num.specs.declared.fault.FrameFault.{FrameFault}
 use Rattle.ix_rec.specs.declared.fault.ReadFault.{ReadFault}
@@ -12,19 +11,19 @@ use Rattle.ix_frame.specs.Sound.{endless, sound_elements}
 use Rattle.ix_frame.specs.Target.{Object, Elements}
 use Rattle.ix_message.specs.Indexes.{Lists, only_table, steps}
 use Rattle.ix_message.specs.Message.{numbers_in_segments}
-use Rattle.ix_message.specs.Phys.{pin_mapping, cell_placement, phys_net, site_instance, property, phys_netlist}
+use Rattle.ix_message.specs.Phys.{cell_placement, phys_net, site_instance, property, phys_netlist}
 use Rattle.ix_message.specs.Reading.{Reads, row_at, each_from, texts_from, texts_at, value_at, parts_at, root_at}
 use Rattle.ix_message.specs.Shape.{Text, Struct, Value, struct_of, unread, texts, no_more}
 use Rattle.ix_message_read.specs.Tells.{Fails}
-use Rattle.ix_schema.specs.Passed.{left_at, parts_left, texts_left, texts_passed}
-use Rattle.ix_schema.specs.Said.{said, parts_said, each_said, texts_said, table_said}
+use Rattle.ix_schema.specs.Passed.{left_at, parts_left, texts_passed}
+use Rattle.ix_schema.specs.Said.{said, parts_said, table_said}
 use Rattle.ix_schema.specs.Splitting.{ReadingsSplit}
 use Rattle.ix_phys_read.specs.Sound.{most_cost, IsSound, IsPassed}
 use Rattle.ix_take.specs.Walked.{begun_in}
 use Rattle.ix_phys_read.proofs.Costs.{text_at_left, texts_passed_left, pointers_at_left, elements_at_left}
 use Rattle.ix_phys_read.proofs.Counted.{Paid, paid_each, placement_paid, net_paid, site_paid, property_paid}
 use Rattle.ix_phys_read.proofs.Found.{elements_sound}
-use Rattle.ix_phys_read.proofs.Opened.{Comes, comes, has_it}
+use Rattle.ix_phys_read.proofs.Opened.{comes, has_it}
 use Rattle.ix_phys_read.proofs.Steps.{begun_on, root_steps}
 
 -- The string table, as part of a struct that has it alone.

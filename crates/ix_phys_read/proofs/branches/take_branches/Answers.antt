@@ -1,23 +1,22 @@
-use Rattle.std.proofs.Common.{◌≡◌, ◌<◌, ◌≤◌, ◌+◌, ◌-◌, ◌*◌, ◌++◌, ◌∷◌, ◌∙◌, [], ℕ, List, length, refl, sym, arith, rules, ◌^◌}
+use Rattle.std.proofs.Common.{◌≡◌, ◌<◌, ◌≤◌, ◌+◌, ◌++◌, ◌∷◌, ◌∙◌, [], length, refl, sym, arith, rules, ◌^◌}
 use Rattle.std.proofs.lemmas.List.{length-append}
 use Rattle.std.proofs.lemmas.List.Elements.{All-nil, All-push}
 use Rattle.std.proofs.lemmas.Result.{err_from_is_err_and}
 use Rattle.ix_frame.specs.Objects.{element_of}
 use Rattle.ix_frame.specs.Sound.{endless}
-use Rattle.ix_frame.specs.Target.{Object}
-use Rattle.ix_frame.specs.Views.{elements_of, object_of}
-use Rattle.ix_message.specs.Indexes.{Lists, branch_steps, only_table}
+use Rattle.ix_frame.specs.Views.{elements_of}
+use Rattle.ix_message.specs.Indexes.{branch_steps, only_table}
 use Rattle.ix_message.specs.Phys.{segment}
 use Rattle.ix_message.specs.Reading.{row_at}
-use Rattle.ix_message.specs.Shape.{Text, preorder, Branches}
-use Rattle.ix_phys_write.specs.Record.{segment_row, IsSegmentNamed}
+use Rattle.ix_message.specs.Shape.{preorder}
+use Rattle.ix_phys_write.specs.Record.{IsSegmentNamed}
 use Rattle.ix_schema.specs.Said.{branches_said}
 use Rattle.ix_phys_read.specs.declared.branches.Open.{Open}
 use Rattle.ix_take.specs.Views.{table_of, Stops}
 use Rattle.ix_take.specs.Walked.{walked}
 use Rattle.ix_phys_read.specs.Walked.{counted_structs}
 use Rattle.ix_phys_read.proofs.Opened.{few_branches}
-use Rattle.ix_phys_read.proofs.Stacks.{data_by, begins, one_done, one_stops, goes_on, depth_fits, depth_few, many, more, all_fit, all_made, nothing_in}
+use Rattle.ix_phys_read.proofs.Stacks.{begins, one_done, one_stops, goes_on, depth_fits, depth_few, many, more, all_fit, all_made, nothing_in}
 use Rattle.ix_phys_read.proofs.Steps.{item_steps}
 use Rattle.ix_take.specs.Going.{stops_on}
 use Rattle.ix_phys_read.proofs.branches.take_branches.Goals as goal

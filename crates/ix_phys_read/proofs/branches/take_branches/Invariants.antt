@@ -1,4 +1,4 @@
-use Rattle.std.proofs.Common.{ℕ, ◌+◌, ◌-◌, ◌*◌, length, map}
+use Rattle.std.proofs.Common.{◌+◌, ◌-◌, ◌*◌, length}
 use Rattle.std.specs.List.{All}
 use Rattle.ix_frame.specs.Sound.{endless}
 use Rattle.ix_frame.specs.Views.{elements_of}

@@ -1,5 +1,4 @@
-use Rattle.std.proofs.Common.{◌≡◌, ◌≤◌, ◌<◌, ◌+◌, ◌∙◌, ◌++◌, ◌∷◌, [], List, length, sym, ap, subst, arith}
-use Rattle.std.specs.Prelude.{IfOk, OnOk}
+use Rattle.std.proofs.Common.{◌≡◌, ◌∙◌, ◌∷◌, [], List, sym, ap, subst, arith}
 use Rattle.ix_device_read.specs.Loose.{with_names, AreNumbersOf}
 use Rattle.ix_frame.specs.Sound.{sound_list, sound_text}
 use Rattle.ix_frame.specs.Target.{Elements}

@@ -1,4 +1,4 @@
-use Rattle.std.proofs.Common.{◌≡◌, ◌∙◌}
+use Rattle.std.proofs.Common.{◌∙◌}
 use Rattle.ix_schema.specs.Structs.{phys_structs}
 use Rattle.ix_phys_read.proofs.Words.{field_in_table}
 use Rattle.ix_phys_read.proofs.read.field_name.Goals as goal

@@ -1,4 +1,4 @@
-use Rattle.std.proofs.Common.{◌≡◌, ◌∙◌, refl}
+use Rattle.std.proofs.Common.{◌∙◌, refl}
 use Rattle.ix_schema.specs.Structs.{phys_structs}
 use Rattle.ix_take.specs.Views.{kind_word}
 use Rattle.ix_phys_read.proofs.Words.{kind_in_table}

@@ -1,4 +1,4 @@
-use Rattle.std.proofs.Common.{◌≡◌, ◌∙◌, ◌++◌, List, map, length, sym, ap, subst}
+use Rattle.std.proofs.Common.{◌≡◌, ◌∙◌, ◌++◌, List, map, sym, ap, subst}
 use Rattle.ix_device_read.specs.Adding.{AddsExactly}
 use Rattle.ix_device_read.specs.Loose.{with_names, loose_texts}
 use Rattle.ix_device_read.specs.Reading.{reading_in_segments, record_unless_bad, IsReading}

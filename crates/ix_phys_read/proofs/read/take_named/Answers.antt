@@ -1,4 +1,4 @@
-use Rattle.std.proofs.Common.{◌≡◌, ◌∙◌, List, [], Ok, map, length, replicate, ap}
+use Rattle.std.proofs.Common.{◌∙◌, [], Ok, map, length, replicate, ap}
 use Rattle.ix_frame.specs.Views.{object_of}
 use Rattle.ix_message.specs.Indexes.{only_table, steps}
 use Rattle.ix_message.specs.Phys.{phys_netlist}

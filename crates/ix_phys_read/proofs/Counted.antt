@@ -1,6 +1,6 @@
 -- How many structs the steps of a netlist begin: no more than its reading costs. All are of kinds that are counted.
 use Prim.Native.String.{String}
-use Rattle.std.proofs.Common.{◌≡◌, ◌≤◌, ◌+◌, ◌++◌, ◌∙◌, ℕ, List, [], ◌∷◌, Ok, true, refl, sym, ap, subst, arith}
+use Rattle.std.proofs.Common.{◌≡◌, ◌≤◌, ◌+◌, ◌++◌, ◌∙◌, ℕ, zero, suc, List, [], ◌∷◌, Result, Ok, Err, true, refl, sym, ap, subst, arith}
 use Rattle.std.specs.Prelude.{IfOk}
 use Rattle.std.specs.List.{flat_map}
 use Rattle.ix_frame.specs.Objects.{elements_at}
@@ -10,9 +10,11 @@ use Rattle.ix_message.specs.Indexes.{Lists, Step, begun, ask_row, steps, branch_
 use Rattle.ix_message.specs.Phys.{pin_mapping, cell_placement, phys_net, site_instance, property, phys_netlist, segment}
 use Rattle.ix_message.specs.Reading.{row_at, each_from, branches_from, value_at, parts_at, pointers_of}
 use Rattle.ix_message.specs.Shape.{Text, Field, Struct, Pointers, Value, Branches, struct_of, branches, no_more, ends, branch}
-use Rattle.ix_phys_read.specs.Walked.{phys_kinds, begun_in}
+use Rattle.ix_take.specs.Walked.{kinds_of, begun_in}
+use Rattle.ix_take.specs.Walks.{has_kind, AreOfKinds}
+use Rattle.ix_phys_read.specs.Walked.{counted_structs}
 use Rattle.ix_phys_read.proofs.Costs.{and_then, weaker, each_left, branches_left, branches_in, elements_at_left}
-use Rattle.ix_phys_read.proofs.Steps.{own, pin_steps, site_steps, property_steps, placement_steps, net_steps, root_steps, begun_on, AreOfKinds, has_kind, fields_of, kinds_on, kinds_each, row_kinds, row_begins}
+use Rattle.ix_phys_read.proofs.Steps.{own, pin_steps, site_steps, property_steps, placement_steps, net_steps, root_steps, begun_on, fields_of, kinds_on, kinds_each, row_kinds, row_begins}
 
 -- What a struct begins, and what is left of the budget.
 abbrev pub Paid : {A : Type 0} → (A → List Step) → ℕ → A × ℕ → Type 0
@@ -105,43 +107,43 @@ net_paid l o b =
 
 -- The steps are of kinds that are counted.
 
-own_kinds : (l : Lists) (kind : String) (fields : List Field) (row : List ℕ) → has_kind phys_kinds kind ≡ true → AreOfKinds (begun kind ∷ ask_row l [] kind row fields row)
+own_kinds : (l : Lists) (kind : String) (fields : List Field) (row : List ℕ) → has_kind (kinds_of counted_structs) kind ≡ true → AreOfKinds counted_structs (begun kind ∷ ask_row l [] kind row fields row)
 own_kinds l kind fields row h = (h, row_kinds l kind row fields row h)
 
-branch_kinds : (l : Lists) (t : Branches (List ℕ)) → AreOfKinds (branch_steps l "RouteBranch" segment t)
+branch_kinds : (l : Lists) (t : Branches (List ℕ)) → AreOfKinds counted_structs (branch_steps l "RouteBranch" segment t)
 branch_kinds l ends = tt
 branch_kinds l (branch row below beside) =
     kinds_on ((begun "RouteBranch" ∷ ask_row l [] "RouteBranch" row segment row) ++ branch_steps l "RouteBranch" segment below) (branch_steps l "RouteBranch" segment beside)
     (kinds_on (begun "RouteBranch" ∷ ask_row l [] "RouteBranch" row segment row) (branch_steps l "RouteBranch" segment below) (own_kinds l "RouteBranch" segment row refl) (branch_kinds l below)) (branch_kinds l beside)
 
-placement_kinds : (l : Lists) (v : Value ℕ cell_placement) → AreOfKinds (steps cell_placement l [] v)
+placement_kinds : (l : Lists) (v : Value ℕ cell_placement) → AreOfKinds counted_structs (steps cell_placement l [] v)
 unfolding own
 placement_kinds l v =
-    subst AreOfKinds (sym (placement_steps l [] v)) (kinds_on (own l cell_placement v.0) (flat_map (steps pin_mapping l []) v.1.0) (own_kinds l "CellPlacement" (fields_of cell_placement) v.0 refl)
-    (kinds_each (steps pin_mapping l []) (λ p. subst AreOfKinds (sym (pin_steps l [] p)) (own_kinds l "PinMapping" (fields_of pin_mapping) p.0 refl)) v.1.0))
+    subst (AreOfKinds counted_structs) (sym (placement_steps l [] v)) (kinds_on (own l cell_placement v.0) (flat_map (steps pin_mapping l []) v.1.0) (own_kinds l "CellPlacement" (fields_of cell_placement) v.0 refl)
+    (kinds_each (steps pin_mapping l []) (λ p. subst (AreOfKinds counted_structs) (sym (pin_steps l [] p)) (own_kinds l "PinMapping" (fields_of pin_mapping) p.0 refl)) v.1.0))
 
-net_kinds : (l : Lists) (v : Value ℕ phys_net) → AreOfKinds (steps phys_net l [] v)
+net_kinds : (l : Lists) (v : Value ℕ phys_net) → AreOfKinds counted_structs (steps phys_net l [] v)
 unfolding own
 net_kinds l v =
     let one = branch_steps l "RouteBranch" segment v.1.0 in
     let two = branch_steps l "RouteBranch" segment v.1.1.0 in
-    subst AreOfKinds (sym (net_steps l [] v)) (kinds_on (own l phys_net v.0) (one ++ two) (own_kinds l "PhysNet" (fields_of phys_net) v.0 refl) (kinds_on one two (branch_kinds l v.1.0) (branch_kinds l v.1.1.0)))
+    subst (AreOfKinds counted_structs) (sym (net_steps l [] v)) (kinds_on (own l phys_net v.0) (one ++ two) (own_kinds l "PhysNet" (fields_of phys_net) v.0 refl) (kinds_on one two (branch_kinds l v.1.0) (branch_kinds l v.1.1.0)))
 
-site_kinds : (l : Lists) (v : Value ℕ site_instance) → AreOfKinds (steps site_instance l [] v)
+site_kinds : (l : Lists) (v : Value ℕ site_instance) → AreOfKinds counted_structs (steps site_instance l [] v)
 unfolding own
-site_kinds l v = subst AreOfKinds (sym (site_steps l [] v)) (own_kinds l "SiteInstance" (fields_of site_instance) v.0 refl)
+site_kinds l v = subst (AreOfKinds counted_structs) (sym (site_steps l [] v)) (own_kinds l "SiteInstance" (fields_of site_instance) v.0 refl)
 
-property_kinds : (l : Lists) (v : Value ℕ property) → AreOfKinds (steps property l [] v)
+property_kinds : (l : Lists) (v : Value ℕ property) → AreOfKinds counted_structs (steps property l [] v)
 unfolding own
-property_kinds l v = subst AreOfKinds (sym (property_steps l [] v)) (own_kinds l "Property" (fields_of property) v.0 refl)
+property_kinds l v = subst (AreOfKinds counted_structs) (sym (property_steps l [] v)) (own_kinds l "Property" (fields_of property) v.0 refl)
 
-pub root_kinds : (l : Lists) (part : Text) (ps : List (Value ℕ cell_placement)) (ns : List (Value ℕ phys_net)) (is : List (Value ℕ site_instance)) (qs : List (Value ℕ property)) → AreOfKinds (steps phys_netlist l [] ([], (part, (ps, (ns, (is, (qs, tt)))))))
+pub root_kinds : (l : Lists) (part : Text) (ps : List (Value ℕ cell_placement)) (ns : List (Value ℕ phys_net)) (is : List (Value ℕ site_instance)) (qs : List (Value ℕ property)) → AreOfKinds counted_structs (steps phys_netlist l [] ([], (part, (ps, (ns, (is, (qs, tt)))))))
 root_kinds l part ps ns is qs =
     let p = flat_map (steps cell_placement l []) ps in
     let n = flat_map (steps phys_net l []) ns in
     let i = flat_map (steps site_instance l []) is in
     let q = flat_map (steps property l []) qs in
-    subst AreOfKinds (sym (root_steps l part ps ns is qs)) (
+    subst (AreOfKinds counted_structs) (sym (root_steps l part ps ns is qs)) (
       refl,
       kinds_on p (n ++ (i ++ q)) (kinds_each (steps cell_placement l []) (placement_kinds l) ps) (kinds_on n (i ++ q) (kinds_each (steps phys_net l []) (net_kinds l) ns)
           (kinds_on i q (kinds_each (steps site_instance l []) (site_kinds l) is) (kinds_each (steps property l []) (property_kinds l) qs))),

@@ -1,13 +1,11 @@
 pub mod Costs
 pub mod Counted
 pub mod Found
-pub mod Lists
 pub mod NetTrees
 pub mod Opened
 pub mod Rows
 pub mod Stacks
 pub mod Steps
-pub mod Stops
 pub mod Texts
 pub mod Told
 pub mod Trees

@@ -17,9 +17,11 @@ use Rattle.ix_rec.specs.declared.forest.Branch.{Branch}
 use Rattle.ix_rec.specs.declared.phys.Segment.{Segment}
 use Rattle.ix_phys_read.specs.declared.branches.Open.{Open}
 use Rattle.ix_phys_read.specs.Sound.{AreSound}
-use Rattle.ix_phys_read.specs.Walked.{walked}
+use Rattle.ix_take.specs.Walked.{walked}
+use Rattle.ix_phys_read.specs.Walked.{counted_structs}
 use Rattle.ix_phys_read.proofs.Opened.{Opened, opened, none_left}
-use Rattle.ix_phys_read.proofs.Steps.{item_steps, in_preorder, walked_then, walked_fails}
+use Rattle.ix_take.specs.Going.{walked_then, walked_fails}
+use Rattle.ix_phys_read.proofs.Steps.{item_steps, in_preorder}
 use Rattle.ix_phys_read.proofs.Trees.{told, changed, depth_of, as_branch, preorder_told, trees_again, trees_changed, depths_step, depth_within, depth_count}
 
 -- the rest of each open list is these trees
@@ -88,7 +90,7 @@ pub record Taken (names table : List Text) (lists : Lists) (whole : Branches (Li
   pub stands : AreOpen stack trees
   pub whole_is : preorder 0 whole ≡ taken ++ to_come stack trees
   pub made : map (shown names) found ≡ map (told (data_by table)) taken
-  pub steps : walked before (branch_steps lists "RouteBranch" segment whole) ≡ walked now (flat_map (item_steps lists) (to_come stack trees))
+  pub steps : walked counted_structs before (branch_steps lists "RouteBranch" segment whole) ≡ walked counted_structs now (flat_map (item_steps lists) (to_come stack trees))
 
 module _ (names table : List Text) (lists : Lists) (whole : Branches (List ℕ)) (before : List ℕ) where
   abbrev At : List Open → List (Branch Segment) → List ℕ → Type 0
@@ -102,7 +104,7 @@ module _ (names table : List Text) (lists : Lists) (whole : Branches (List ℕ))
     stands = (rw first sound, tt);
     whole_is = rw top refl;
     made = refl;
-    steps = ap (walked before) (rw top (in_preorder lists 0 whole));
+    steps = ap (walked counted_structs before) (rw top (in_preorder lists 0 whole));
   }
 
   -- the list on top is done
@@ -117,7 +119,7 @@ module _ (names table : List Text) (lists : Lists) (whole : Branches (List ℕ))
         stands = p.stands;
         whole_is = h.whole_is ∙ ap (λ (items : List (ℕ × List ℕ)). h.taken ++ items) same;
         made = h.made;
-        steps = h.steps ∙ ap (λ (items : List (ℕ × List ℕ)). walked now (flat_map (item_steps lists) items)) same;
+        steps = h.steps ∙ ap (λ (items : List (ℕ × List ℕ)). walked counted_structs now (flat_map (item_steps lists) items)) same;
       }
 
   -- The branch that comes next.
@@ -194,7 +196,7 @@ module _ (names table : List Text) (lists : Lists) (whole : Branches (List ℕ))
   -- it was taken, and the lists beside and below it are open
   pub goes_on : (xs ys : List Open) (x after below : Open) (found : List (Branch Segment)) (now then_ : List ℕ) (s : Segment) → xs ≡ ys ++ x ∷ [] → x.next < (elements_of x.list).count
       → after ≡ record { list = x.list; next = x.next + 1; depth = x.depth } → elements_of below.list ≡ sound_elements (element_of (elements_of x.list) x.next) 0 → below.next ≡ 0 → below.depth ≡ x.depth + 1
-      → data_by table (row_of x) ≡ segment_row names s → walked now (item_steps lists (x.depth, row_of x)) ≡ Ok then_
+      → data_by table (row_of x) ≡ segment_row names s → walked counted_structs now (item_steps lists (x.depth, row_of x)) ≡ Ok then_
       → At xs found now → At ((ys ++ after ∷ []) ++ below ∷ []) (found ++ record { depth = x.depth; item = s } ∷ []) then_
   goes_on xs ys x after below found now then_ s is lt after_is inner first deep same fits h =
       let n = next xs ys x found now is lt h in
@@ -210,20 +212,20 @@ module _ (names table : List Text) (lists : Lists) (whole : Branches (List ℕ))
         stands = two.stands;
         whole_is = h.whole_is ∙ ap (λ (items : List (ℕ × List ℕ)). h.taken ++ items) n.is ∙ sym (append_assoc h.taken (item ∷ []) n.rest) ∙ ap (λ (items : List (ℕ × List ℕ)). (h.taken ++ item ∷ []) ++ items) (sym left);
         made = map-append (shown names) found _ ∙ ap (λ (l : List (ℕ × List Datum)). l ++ (x.depth, segment_row names s) ∷ []) h.made ∙ ap (λ (d : List Datum). map (told (data_by table)) h.taken ++ (x.depth, d) ∷ []) (sym same) ∙ sym (map-append (told (data_by table)) h.taken (item ∷ []));
-        steps = h.steps ∙ ap (λ (items : List (ℕ × List ℕ)). walked now (flat_map (item_steps lists) items)) n.is ∙ walked_then now then_ (item_steps lists item) (flat_map (item_steps lists) n.rest) fits ∙ ap (λ (items : List (ℕ × List ℕ)). walked then_ (flat_map (item_steps lists) items)) (sym left);
+        steps = h.steps ∙ ap (λ (items : List (ℕ × List ℕ)). walked counted_structs now (flat_map (item_steps lists) items)) n.is ∙ walked_then counted_structs now then_ (item_steps lists item) (flat_map (item_steps lists) n.rest) fits ∙ ap (λ (items : List (ℕ × List ℕ)). walked counted_structs then_ (flat_map (item_steps lists) items)) (sym left);
       }
 
   -- a number of it is out of its list
   pub one_stops : (xs ys : List Open) (x : Open) (found : List (Branch Segment)) (now : List ℕ) (bad : Item) → xs ≡ ys ++ x ∷ [] → x.next < (elements_of x.list).count
-      → walked now (item_steps lists (x.depth, row_of x)) ≡ Err bad → At xs found now → walked before (branch_steps lists "RouteBranch" segment whole) ≡ Err bad
+      → walked counted_structs now (item_steps lists (x.depth, row_of x)) ≡ Err bad → At xs found now → walked counted_structs before (branch_steps lists "RouteBranch" segment whole) ≡ Err bad
   one_stops xs ys x found now bad is lt fails h =
       let n = next xs ys x found now is lt h in
-      h.steps ∙ ap (λ (items : List (ℕ × List ℕ)). walked now (flat_map (item_steps lists) items)) n.is ∙ walked_fails now (item_steps lists (x.depth, row_of x)) (flat_map (item_steps lists) n.rest) bad fails
+      h.steps ∙ ap (λ (items : List (ℕ × List ℕ)). walked counted_structs now (flat_map (item_steps lists) items)) n.is ∙ walked_fails counted_structs now (item_steps lists (x.depth, row_of x)) (flat_map (item_steps lists) n.rest) bad fails
 
   -- no list is open
-  pub all_fit : (xs : List Open) (found : List (Branch Segment)) (now : List ℕ) → xs ≡ [] → At xs found now → walked before (branch_steps lists "RouteBranch" segment whole) ≡ Ok now
+  pub all_fit : (xs : List Open) (found : List (Branch Segment)) (now : List ℕ) → xs ≡ [] → At xs found now → walked counted_structs before (branch_steps lists "RouteBranch" segment whole) ≡ Ok now
   unfolding walked
-  all_fit xs found now none h = h.steps ∙ ap (λ (zs : List Open). walked now (flat_map (item_steps lists) (to_come zs h.trees))) none
+  all_fit xs found now none h = h.steps ∙ ap (λ (zs : List Open). walked counted_structs now (flat_map (item_steps lists) (to_come zs h.trees))) none
 
   pub all_made : (xs : List Open) (found : List (Branch Segment)) (now : List ℕ) → xs ≡ [] → At xs found now → branches_map (data_by table) whole ≡ branches_map (segment_row names) (trees_at 0 found)
   all_made xs found now none h =

@@ -7,28 +7,15 @@ use Rattle.std.proofs.lemmas.Bool.{both_ways, and_parts, eqb-true}
 use Rattle.std.proofs.lemmas.List.{append-nil, length-set, length-append, get_or-set_same, get_or-set_other}
 use Rattle.std.proofs.lemmas.List.Sums.{sum_by_push, count_by-le-length}
 use Rattle.ix_frame.specs.Result.{◌>>=◌}
-use Rattle.ix_message.specs.Indexes.{Item, Step, Entry, Lists, begun, asked, ask_row, fits, begins, first_unfit, steps, part_steps, branch_steps}
+use Rattle.ix_message.specs.Indexes.{Item, Step, Entry, Lists, begun, asked, ask_row, fits, begins, first_unfit, steps, part_steps, branch_steps, lists_of, lengths_of}
 use Rattle.ix_message.specs.Names.{same_text}
 use Rattle.ix_message.specs.Phys.{pin_mapping, cell_placement, phys_net, site_instance, property, phys_netlist, segment}
-use Rattle.ix_message.specs.Shape.{Text, Field, Kind, Struct, Branches, Value, flag, nothing, choice, name, by_tag, struct_of, ends, branch, preorder}
-use Rattle.ix_device_read.specs.Finish.{place_of, with_one_more}
-use Rattle.ix_phys_read.specs.Walked.{phys_kinds, begin, walked, begun_in}
+use Rattle.ix_message.specs.Shape.{Text, Field, Kind, Struct, Pointers, Branches, Value, Parts, field, flag, nothing, choice, name, by_tag, struct_of, no_more, ends, branch, preorder}
+use Rattle.ix_device_read.specs.Finish.{place_of, with_one_more, field_at}
+use Rattle.ix_take.specs.Walked.{kinds_of, begun_in}
+use Rattle.ix_take.specs.Walks.{has_kind, AreOfKinds}
+use Rattle.ix_phys_read.specs.Walked.{counted_structs}
 use Rattle.std.proofs.lemmas.Grind.{flat_map-append}
-
--- Steps one after another.
-
-pub walked_on : (counts : List ℕ) (xs ys : List Step) → walked counts (xs ++ ys) ≡ (walked counts xs >>= λ now. walked now ys)
-unfolding walked
-walked_on counts [] ys = refl
-walked_on counts (begun kind ∷ xs) ys = walked_on (begin kind counts) xs ys
-walked_on counts (asked kind called true ∷ xs) ys = walked_on counts xs ys
-walked_on counts (asked kind called false ∷ xs) ys = refl
-
-pub walked_then : (counts now : List ℕ) (xs ys : List Step) → walked counts xs ≡ Ok now → walked counts (xs ++ ys) ≡ walked now ys
-walked_then counts now xs ys is = walked_on counts xs ys ∙ rw is refl
-
-pub walked_fails : (counts : List ℕ) (xs ys : List Step) (i : Item) → walked counts xs ≡ Err i → walked counts (xs ++ ys) ≡ Err i
-walked_fails counts xs ys i is = walked_on counts xs ys ∙ rw is refl
 
 -- Fields that ask nothing of the structs around.
 
@@ -136,107 +123,6 @@ in_preorder l d (branch row below beside) =
     rw (in_preorder l (d + 1) below, in_preorder l d beside) (sym (flat_map-append (item_steps l) (preorder (d + 1) below) (preorder d beside))) in
     append_assoc items (branch_steps l "RouteBranch" segment below) (branch_steps l "RouteBranch" segment beside) ∙ ap (λ (xs : List Step). items ++ xs) one
 
--- The places of kinds.
-
-abbrev pub has_kind : List String → String → Bool
-has_kind [] kind = false
-has_kind (k ∷ ks) kind = if same_text (codes k) (codes kind) then true else has_kind ks kind
-
-place-lt : (ks : List String) (kind : String) → has_kind ks kind ≡ true → place_of ks kind < length ks
-place-lt [] kind h = absurd cc
-place-lt (k ∷ ks) kind h = go (same_text (codes k) (codes kind)) h (place-lt ks kind)
-  where
-    go : (b : Bool) → cond b true (has_kind ks kind) ≡ true → (has_kind ks kind ≡ true → place_of ks kind < length ks) → cond b 0 (place_of ks kind + 1) < length (k ∷ ks)
-    go true h later = omega arith
-    go false h later = let i = later h in omega arith
-
-place-same : (ks : List String) (a b : String) → codes a ≡ codes b → place_of ks a ≡ place_of ks b
-place-same [] a b e = refl
-place-same (k ∷ ks) a b e = let later = place-same ks a b e in λ i. cond (same_text (codes k) (e i)) 0 (later i + 1)
-
-same_text-true : (s t : Text) → same_text s t ≡ true → s ≡ t
-same_text-true [] [] h = refl
-same_text-true [] (y ∷ ys) h = absurd cc
-same_text-true (x ∷ xs) [] h = absurd cc
-same_text-true (x ∷ xs) (y ∷ ys) h =
-    let two = and_parts (x == y) (same_text xs ys) h in
-    let one : x ≡ y = eqb-true x y two.0 in
-    let rest = same_text-true xs ys two.1 in
-    ap (λ (n : ℕ). n ∷ xs) one ∙ ap (λ (t : Text). y ∷ t) rest
-
-same_text-refl : (t : Text) → same_text t t ≡ true
-same_text-refl [] = refl
-same_text-refl (x ∷ xs) = rw (eq-eqb x x refl) (same_text-refl xs)
-
-same_of : (s t : Text) → s ≡ t → same_text s t ≡ true
-same_of s t e = subst (λ (u : Text). same_text s u ≡ true) e (same_text-refl s)
-
-place-differs : (ks : List String) (a b : String) → has_kind ks a ≡ true → has_kind ks b ≡ true → place_of ks a ≡ place_of ks b → same_text (codes a) (codes b) ≡ true
-place-differs [] a b h i e = absurd cc
-place-differs (k ∷ ks) a b h i e = go (same_text (codes k) (codes a)) (same_text (codes k) (codes b)) refl refl h i e (place-differs ks a b)
-  where
-    go : (x y : Bool) → same_text (codes k) (codes a) ≡ x → same_text (codes k) (codes b) ≡ y
-        → cond x true (has_kind ks a) ≡ true → cond y true (has_kind ks b) ≡ true → cond x 0 (place_of ks a + 1) ≡ cond y 0 (place_of ks b + 1)
-        → (has_kind ks a ≡ true → has_kind ks b ≡ true → place_of ks a ≡ place_of ks b → same_text (codes a) (codes b) ≡ true) → same_text (codes a) (codes b) ≡ true
-    go true true p q h i e later = same_of (codes a) (codes b) (sym (same_text-true (codes k) (codes a) p) ∙ same_text-true (codes k) (codes b) q)
-    go false false p q h i e later = later h i (omega arith)
-    go true false p q h i e later = absurd (omega arith)
-    go false true p q h i e later = absurd (omega arith)
-
--- The counts are those of the structs begun.
-
-record AreCounts (counts : List ℕ) (before : List Step) : Type 0 where
-  size : length counts ≡ length phys_kinds
-  each : (kind : String) → has_kind phys_kinds kind ≡ true → slice_index counts (place_of phys_kinds kind) ≡ count_by (begins kind) before
-
-one_more : (counts : List ℕ) (before : List Step) (k : String) → AreCounts counts before → has_kind phys_kinds k ≡ true → length before < 2 ^ 32 - 1 → AreCounts (begin k counts) (before ++ begun k ∷ [])
-one_more counts before k c known few = record {
-  size = length-set counts (place_of phys_kinds k) (min (slice_index counts (place_of phys_kinds k) + 1) (2 ^ 32 - 1)) ∙ c.size;
-  each = λ kind h. go kind h (same_text (codes k) (codes kind)) refl ∙ sym (sum_by_push (λ (s : Step). cond (begins kind s) 1 0) before (begun k));
-}
-  where
-    go : (kind : String) → has_kind phys_kinds kind ≡ true → (b : Bool) → same_text (codes k) (codes kind) ≡ b
-        → slice_index (with_one_more counts (place_of phys_kinds k)) (place_of phys_kinds kind) ≡ count_by (begins kind) before + cond (same_text (codes k) (codes kind)) 1 0
-    go kind h true e =
-        let place : place_of phys_kinds k ≡ place_of phys_kinds kind = place-same phys_kinds k kind (same_text-true (codes k) (codes kind) e) in
-        let here : slice_index counts (place_of phys_kinds k) ≡ count_by (begins kind) before = ap (λ (p : ℕ). slice_index counts p) place ∙ c.each kind h in
-        let inside : place_of phys_kinds k < length counts = omega (arith, place-lt phys_kinds k known, c.size) in
-        let more : min (slice_index counts (place_of phys_kinds k) + 1) (2 ^ 32 - 1) ≡ count_by (begins kind) before + 1 = omega (arith, count_by-le-length (begins kind) before, here) in
-        ap (λ (p : ℕ). slice_index (with_one_more counts (place_of phys_kinds k)) p) (sym place) ∙ get_or-set_same counts (place_of phys_kinds k) _ 0 inside ∙ more ∙ ap (λ (b : Bool). count_by (begins kind) before + cond b 1 0) (sym e)
-    go kind h false e =
-        let apart = λ (p : place_of phys_kinds kind ≡ place_of phys_kinds k). both_ways (same_text (codes k) (codes kind)) e (place-differs phys_kinds k kind known h (sym p)) in
-        let none : count_by (begins kind) before ≡ count_by (begins kind) before + 0 = omega arith in
-        get_or-set_other counts (place_of phys_kinds k) (place_of phys_kinds kind) _ 0 apart ∙ c.each kind h ∙ none ∙ ap (λ (b : Bool). count_by (begins kind) before + cond b 1 0) (sym e)
-
-abbrev pub IsOfKind : Step → Type 0
-IsOfKind (begun kind) = has_kind phys_kinds kind ≡ true
-IsOfKind (asked kind called fit) = has_kind phys_kinds kind ≡ true
-
-abbrev pub AreOfKinds : List Step → Type 0
-AreOfKinds xs = AllByRecursion IsOfKind xs
-
-abbrev pub stopped : Result (List ℕ) Item → Option Item
-stopped (Ok counts) = None
-stopped (Err item) = Some item
-
-same_first : (rest : List Step) (counts : List ℕ) (before : List Step) → AreCounts counts before → AreOfKinds rest → length before + begun_in rest ≤ 2 ^ 32 - 1 → stopped (walked counts rest) ≡ first_unfit before rest
-unfolding walked first_unfit
-same_first [] counts before c h few = refl
-same_first (begun k ∷ rest) counts before c h few =
-    same_first rest (begin k counts) (before ++ begun k ∷ []) (one_more counts before k c h.0 (omega arith)) h.1 (omega (arith, length-append before (begun k ∷ [])))
-same_first (asked k called true ∷ rest) counts before c h few = same_first rest counts before c h.1 few
-same_first (asked k called false ∷ rest) counts before c h few =
-    ap (λ (n : ℕ). Some (record { kind = codes k; field = codes called; index = n - 1 })) (c.each k h.0)
-
-zeros : (n i : ℕ) → slice_index (replicate n 0) i ≡ 0
-zeros zero i = refl
-zeros (suc n) zero = refl
-zeros (suc n) (suc i) = zeros n i
-
--- the walk over all steps of a message finds the first field that is out of its list
-pub finds_first : (rest : List Step) → AreOfKinds rest → begun_in rest ≤ 2 ^ 32 - 1 → stopped (walked (replicate 7 0) rest) ≡ first_unfit [] rest
-finds_first rest h few = same_first rest (replicate 7 0) [] (record { size = refl; each = λ kind h. zeros 7 (place_of phys_kinds kind) }) h (omega arith)
-
 -- The steps of a physical netlist are of kinds that are counted.
 
 pub begun_on : (xs ys : List Step) → begun_in (xs ++ ys) ≡ begun_in xs + begun_in ys
@@ -244,15 +130,15 @@ begun_on [] ys = omega arith
 begun_on (begun kind ∷ xs) ys = let later = begun_on xs ys in omega (arith, later)
 begun_on (asked kind called fit ∷ xs) ys = begun_on xs ys
 
-pub kinds_on : (xs ys : List Step) → AreOfKinds xs → AreOfKinds ys → AreOfKinds (xs ++ ys)
+pub kinds_on : (xs ys : List Step) → AreOfKinds counted_structs xs → AreOfKinds counted_structs ys → AreOfKinds counted_structs (xs ++ ys)
 kinds_on [] ys h i = i
 kinds_on (x ∷ xs) ys h i = (h.0, kinds_on xs ys h.1 i)
 
-pub kinds_each : {A : Type 0} (f : A → List Step) → ((x : A) → AreOfKinds (f x)) → (xs : List A) → AreOfKinds (flat_map f xs)
+pub kinds_each : {A : Type 0} (f : A → List Step) → ((x : A) → AreOfKinds counted_structs (f x)) → (xs : List A) → AreOfKinds counted_structs (flat_map f xs)
 kinds_each f one [] = tt
 kinds_each f one (x ∷ xs) = kinds_on (f x) (flat_map f xs) (one x) (kinds_each f one xs)
 
-pub row_kinds : (l : Lists) (kind : String) (row : List ℕ) (fields : List Field) (ns : List ℕ) → has_kind phys_kinds kind ≡ true → AreOfKinds (ask_row l [] kind row fields ns)
+pub row_kinds : (l : Lists) (kind : String) (row : List ℕ) (fields : List Field) (ns : List ℕ) → has_kind (kinds_of counted_structs) kind ≡ true → AreOfKinds counted_structs (ask_row l [] kind row fields ns)
 row_kinds l kind row [] ns h = tt
 row_kinds l kind row (f ∷ fs) [] h = tt
 row_kinds l kind row (f ∷ fs) (n ∷ ns) h = (h, row_kinds l kind row fs ns h)

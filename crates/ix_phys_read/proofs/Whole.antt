@@ -19,7 +19,7 @@ use Rattle.ix_schema.specs.Passed.{left_at, parts_left, texts_passed}
 use Rattle.ix_schema.specs.Said.{said, parts_said, table_said}
 use Rattle.ix_schema.specs.Splitting.{ReadingsSplit}
 use Rattle.ix_phys_read.specs.Sound.{most_cost, IsSound, IsPassed}
-use Rattle.ix_phys_read.specs.Walked.{begun_in}
+use Rattle.ix_take.specs.Walked.{begun_in}
 use Rattle.ix_phys_read.proofs.Costs.{text_at_left, texts_passed_left, pointers_at_left, elements_at_left}
 use Rattle.ix_phys_read.proofs.Counted.{Paid, paid_each, placement_paid, net_paid, site_paid, property_paid}
 use Rattle.ix_phys_read.proofs.Found.{elements_sound}

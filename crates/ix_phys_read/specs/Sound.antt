@@ -8,7 +8,7 @@ use Rattle.ix_message.specs.Phys.{segment, phys_net, phys_netlist}
 use Rattle.ix_message.specs.Reading.{value_at, branches_from}
 use Rattle.ix_message.specs.Shape.{Struct, Branches}
 use Rattle.ix_schema.specs.Said.{said, table_said}
-use Rattle.ix_phys_read.specs.Walked.{begun_in}
+use Rattle.ix_take.specs.Walked.{begun_in}
 
 -- no reading of a message may cost more
 abbrev pub most_cost : ℕ

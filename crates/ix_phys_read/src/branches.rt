@@ -11,16 +11,15 @@ ghost use Rattle.ix_schema.specs.Said.{branches_said};
 ghost use Rattle.ix_phys_write.specs.Record.{segment_row, IsSegmentNamed};
 ghost use Rattle.ix_phys_write.specs.Trees.{trees_at};
 ghost use Rattle.ix_phys_read.specs.Sound.{AreSound};
-ghost use Rattle.ix_phys_read.specs.Views.{table_of, Takes};
-ghost use Rattle.ix_phys_read.specs.Walked.{walked};
+ghost use Rattle.ix_take.specs.Views.{table_of, Takes};
+ghost use Rattle.ix_take.specs.Walked.{walked};
+ghost use Rattle.ix_phys_read.specs.Walked.{counted_structs};
 
-use crate::context::Context;
 use crate::segment::take_segment;
-use crate::stop::Stop;
-use crate::walk::Walk;
 use ix_frame::List;
 use ix_num::Memory;
 use ix_rec::{Forest, Segment};
+use ix_take::{Context, Stop, Walk};
 
 /// A list of branches at a depth, of which so many were taken.
 #[derive(Clone, Copy)]
@@ -46,11 +45,11 @@ fn put<'a>(stack: &mut Vec<Open<'a>>, list: List<'a>, next: u32, depth: u32) -> 
 /// not done are kept on a stack.
 pub fn take_branches(l: List<'_>, ctx: &Context<'_>, walk: &mut Walk) -> Result<Forest, Stop>
     requires { AreSound (elements_of l) 0 (branches_said segment (elements_of l) endless) }
-    ensures made { Takes (λ bs. branches_map (segment_row ctx.now.names.now) (trees_at 0 bs))
+    ensures made { Takes counted_structs (λ bs. branches_map (segment_row ctx.now.names.now) (trees_at 0 bs))
         result walk.new
         (branches_map (λ row. data_of (table_of ctx.now) row segment row)
         (branches_said segment (elements_of l.entry) endless))
-        (walked walk.old (branch_steps (only_table (length (table_of ctx.now))) "RouteBranch"
+        (walked counted_structs walk.old (branch_steps (only_table (length (table_of ctx.now))) "RouteBranch"
         segment (branches_said segment (elements_of l.entry) endless))) }
     ensures named { IfOk result (All (IsSegmentNamed ctx.now.names.now)) }
 {

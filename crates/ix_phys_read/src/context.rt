@@ -1,20 +1,10 @@
-//! What a struct's numbers are asked against.
+//! What the numbers of a physical netlist are asked against.
 
-ghost use Rattle.std.specs.Prelude.{◌<◌, length};
-ghost use Rattle.std.specs.List.{All};
+use ix_take::Context;
 
-use ix_num::NameId;
-use ix_strings::Names;
-use std::alloc::Global;
-
-/// The names of a message.
+/// What the numbers of a physical netlist are asked against: the string table alone.
 #[derive(Drop)]
-pub struct Context<'n> {
-    /// Where memory is taken from.
-    pub alloc: Global,
-    /// The names of the run.
-    pub names: &'n Names,
-    /// The names of the string table.
-    pub strings: &'n [NameId],
-    ghost named: { All (λ id. id < length names.now) strings.now },
+pub struct PhysContext<'n> {
+    /// The string table and the names.
+    pub texts: Context<'n>,
 }

@@ -1,7 +1,6 @@
 //! The reader of physical netlists.
 #![tactic(auto)]
 
-mod at;
 mod branches;
 mod cells;
 mod context;
@@ -11,9 +10,6 @@ mod netlist;
 mod nets;
 mod read;
 mod segment;
-mod stop;
-mod take;
-mod walk;
 
 pub use laws::{files_read_as_their_segments, written_reads_again};
 pub use read::read_phys;

@@ -4,15 +4,16 @@ ghost use Rattle.std.specs.Prelude.{◌≡◌, ◌+◌, ◌-◌, ◌^◌, ◌<�
 ghost use Rattle.std.specs.Prelude.{slice_get, IfOk, OnOk};
 ghost use Rattle.ix_device_read.specs.Loose.{with_names, AreNumbersOf};
 ghost use Rattle.ix_frame.specs.Sound.{sound_text};
-ghost use Rattle.ix_frame.specs.Views.{object_of, text_elements};
+ghost use Rattle.ix_frame.specs.Views.{object_of};
 ghost use Rattle.ix_message.specs.Phys.{phys_netlist};
-ghost use Rattle.ix_schema.specs.Said.{table_said, texts_said};
+ghost use Rattle.ix_schema.specs.Said.{table_said};
 ghost use Rattle.ix_strings.specs.Names.{KeepsNumbers};
 
-use ix_frame::{Obj, Texts};
+use ix_frame::Obj;
 use ix_num::{Memory, NameId};
 use ix_rec::Items;
 use ix_strings::Names;
+use ix_take::add_table;
 use std::alloc::Global;
 
 /// The names of a netlist.
@@ -22,27 +23,6 @@ pub struct Named {
     pub strings: Items<NameId>,
     /// That of its device.
     pub part: NameId,
-}
-
-/// Adds each text of a string table, and gives their numbers, by their place in the table.
-fn add_table(alloc: Global, l: Texts<'_>, names: &mut Names) -> Result<Items<NameId>, Memory>
-    requires { length names.old + (text_elements l).count < 2 ^ 32 - 1 }
-    ensures adds { OnOk result (names.new ≡ with_names names.old
-        (texts_said (text_elements l.entry).count (text_elements l.entry) 0)) }
-    ensures numbers { IfOk result (λ ids. AreNumbersOf names.new ids
-        (texts_said (text_elements l.entry).count (text_elements l.entry) 0)) }
-    ensures keeps { KeepsNumbers names.old names.new }
-    ensures most { length names.new ≤ length names.old + (text_elements l.entry).count }
-{
-    let mut found = Items::with_capacity(alloc, l.len() as usize)?;
-    for i in 0..l.len() {
-        let id = match names.add(l.sound_at(i)) {
-            Ok(id) => id,
-            Err(memory) => return Err(memory),
-        };
-        found.push(id)?;
-    }
-    Ok(found)
 }
 
 /// Adds the texts of a netlist to the names: those of its string table, then the name of its

@@ -9,16 +9,15 @@ ghost use Rattle.ix_message.specs.Phys.{phys_netlist};
 ghost use Rattle.ix_schema.specs.Said.{said};
 ghost use Rattle.ix_phys_write.specs.Record.{phys_record, IsPhysNamed};
 ghost use Rattle.ix_phys_read.specs.Sound.{IsPassed};
-ghost use Rattle.ix_phys_read.specs.Views.{table_of, Takes};
-ghost use Rattle.ix_phys_read.specs.Walked.{walked};
+ghost use Rattle.ix_take.specs.Views.{table_of, Takes};
+ghost use Rattle.ix_take.specs.Walked.{walked};
+ghost use Rattle.ix_phys_read.specs.Walked.{counted_structs};
 
-use crate::context::Context;
-use crate::stop::Stop;
-use crate::take::take_list;
-use crate::walk::Walk;
+use crate::context::PhysContext;
 use ix_frame::Obj;
 use ix_num::NameId;
 use ix_rec::Phys;
+use ix_take::{Stop, Walk, take_list};
 
 /// The root among the kinds that are counted, which is its number in the table.
 pub const NETLIST: usize = 5;
@@ -28,22 +27,22 @@ pub const NETLIST: usize = 5;
 pub fn take_netlist(
     root: Obj<'_>,
     part: NameId,
-    ctx: &Context<'_>,
+    ctx: &PhysContext<'_>,
     walk: &mut Walk,
 ) -> Result<Phys, Stop>
     requires passed { IsPassed (object_of root) }
-    requires part { slice_get ctx.now.names.now part ≡ Some (sound_text (object_of root) 0) }
-    ensures made { Takes (phys_record ctx.now.names.now) result walk.new
-        (record_of (table_of ctx.now) phys_netlist (said phys_netlist (object_of root.entry)))
-        (walked walk.old (steps phys_netlist (only_table (length (table_of ctx.now))) []
+    requires part { slice_get ctx.now.texts.names.now part ≡ Some (sound_text (object_of root) 0) }
+    ensures made { Takes counted_structs (phys_record ctx.now.texts.names.now) result walk.new
+        (record_of (table_of ctx.now.texts) phys_netlist (said phys_netlist (object_of root.entry)))
+        (walked counted_structs walk.old (steps phys_netlist (only_table (length (table_of ctx.now.texts))) []
         (said phys_netlist (object_of root.entry)))) }
-    ensures named { IfOk result (IsPhysNamed ctx.now.names.now) }
+    ensures named { IfOk result (IsPhysNamed ctx.now.texts.names.now) }
 {
     walk.begin(NETLIST);
-    let placements = take_list(root.sound_list(2), ctx, walk)?;
-    let nets = take_list(root.sound_list(3), ctx, walk)?;
-    let site_insts = take_list(root.sound_list(4), ctx, walk)?;
-    let properties = take_list(root.sound_list(5), ctx, walk)?;
+    let placements = take_list(ctx.texts.alloc, root.sound_list(2), ctx, walk)?;
+    let nets = take_list(ctx.texts.alloc, root.sound_list(3), ctx, walk)?;
+    let site_insts = take_list(ctx.texts.alloc, root.sound_list(4), ctx, walk)?;
+    let properties = take_list(ctx.texts.alloc, root.sound_list(5), ctx, walk)?;
     Ok(Phys {
         part,
         placements,

@@ -15,19 +15,20 @@ ghost use Rattle.ix_schema.specs.Splitting.{PassesMessage};
 ghost use Rattle.ix_strings.specs.Names.{KeepsNumbers};
 ghost use Rattle.ix_phys_write.specs.Record.{phys_record, IsPhysNamed};
 ghost use Rattle.ix_phys_read.specs.Sound.{IsPassed};
-ghost use Rattle.ix_phys_read.specs.Views.{kind_word, field_word, TellsField};
+ghost use Rattle.ix_take.specs.Views.{kind_word, field_word};
+ghost use Rattle.ix_phys_read.specs.Views.{TellsField};
+ghost use Rattle.ix_phys_read.specs.Walked.{counted_structs};
 
-use crate::context::Context;
+use crate::context::PhysContext;
 use crate::names::add_names;
 use crate::netlist::{NETLIST, take_netlist};
 use crate::segment::BRANCH;
-use crate::stop::Stop;
-use crate::walk::Walk;
 use ix_frame::{Budget, Frame, Obj};
 use ix_num::NameId;
 use ix_rec::{Phys, Place, ReadFault, Word};
 use ix_schema::{pass_texts_behind, phys_table, readings_split};
 use ix_strings::Names;
+use ix_take::{Context, Stop, Walk, walk_finds_first};
 use std::alloc::Global;
 
 /// The slot of the string table.
@@ -50,7 +51,7 @@ fn pass_netlist<'a>(alloc: Global, frame: &Frame<'a>) -> Result<Obj<'a>, ReadFau
 
 /// The name of a kind of structs.
 fn kind_name(kind: usize) -> &'static str
-    ensures { result.now ≡ kind_word kind }
+    ensures { result.now ≡ kind_word counted_structs kind }
 {
     if kind == BRANCH {
         "RouteBranch"
@@ -60,9 +61,9 @@ fn kind_name(kind: usize) -> &'static str
 }
 
 /// The name of a field of a route branch, empty where there is none.
-#[tactic(auto, unfolding(crate::specs::Views::field_word))]
+#[tactic(auto, unfolding(ix_take::specs::Views::field_word))]
 fn branch_field(field: usize) -> &'static str
-    ensures { result.now ≡ field_word 6 field }
+    ensures { result.now ≡ field_word counted_structs 6 field }
 {
     match field {
         0 => "kind_tag",
@@ -77,7 +78,7 @@ fn branch_field(field: usize) -> &'static str
 
 /// The name of a field of a kind of structs, empty where there is none.
 fn field_name(kind: usize, field: usize) -> &'static str
-    ensures { result.now ≡ field_word kind field }
+    ensures { result.now ≡ field_word counted_structs kind field }
 {
     if kind == BRANCH {
         branch_field(field)
@@ -120,11 +121,15 @@ fn take_named(
         (said phys_netlist (object_of root.entry))) }
     ensures named { IfOk result (IsPhysNamed names.now) }
 {
-    let ctx = Context {
-        alloc,
-        names,
-        strings,
+    let ctx = PhysContext {
+        texts: Context {
+            alloc,
+            names,
+            strings,
+        },
     };
+    // The walk finds what the definition finds first.
+    walk_finds_first();
     let mut walk = Walk::new();
     match take_netlist(root, part, &ctx, &mut walk) {
         Ok(phys) => Ok(phys),

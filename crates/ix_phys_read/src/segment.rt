@@ -1,8 +1,7 @@
 //! A route branch without the branches that follow it.
 
-ghost use Rattle.std.specs.Prelude.{◌≡◌, ◌<◌, ◌==◌, [], ◌∷◌, length, nat_lt, true, ℕ, IfOk};
+ghost use Rattle.std.specs.Prelude.{◌≡◌, ◌<◌, ◌==◌, ◌-◌, [], ◌∷◌, length, nat_lt, true, ℕ, IfOk, slice_index};
 ghost use Rattle.std.specs.Prelude.{if◌then◌else◌};
-ghost use Rattle.ix_device_read.specs.Finish.{field_at};
 ghost use Rattle.ix_frame.specs.Objects.{u32_in};
 ghost use Rattle.ix_frame.specs.Views.{object_of};
 ghost use Rattle.ix_message.specs.Indexes.{ask_row, begun, only_table};
@@ -11,16 +10,15 @@ ghost use Rattle.ix_message.specs.Phys.{segment};
 ghost use Rattle.ix_message.specs.Shape.{name};
 ghost use Rattle.ix_message.specs.Reading.{row_at};
 ghost use Rattle.ix_phys_write.specs.Record.{kind_number, segment_row, third, IsSegmentNamed};
-ghost use Rattle.ix_phys_read.specs.Views.{table_of, kind_word, field_word, Asked, Takes};
-ghost use Rattle.ix_phys_read.specs.Walked.{walked};
+ghost use Rattle.ix_take.specs.Views.{table_of, Asked, Takes};
+ghost use Rattle.ix_take.specs.Walked.{walked};
+ghost use Rattle.ix_take.specs.declared.stop.Stop.TheVariants.{OutOfList};
+ghost use Rattle.ix_phys_read.specs.Walked.{counted_structs};
 
-use crate::at::At;
-use crate::context::Context;
-use crate::stop::Stop;
-use crate::walk::{KINDS, Walk};
 use ix_frame::Obj;
 use ix_num::NameId;
 use ix_rec::{BranchKind, Segment};
+use ix_take::{At, Context, KINDS, Stop, Walk};
 
 /// Route branches among the kinds that are counted: after the structs of the table.
 pub const BRANCH: usize = 6;
@@ -54,7 +52,7 @@ fn third_name(
         else nat_lt (u32_in (object_of at.now.o) 3) (length (table_of ctx.now)))
         (if kind_number kind == 1 then the_number 0
         else datum_of (table_of ctx.now) name (u32_in (object_of at.now.o) 3))
-        (field_at walk.now at.now.kind (kind_word at.now.kind) (field_word at.now.kind 3)) }
+        (OutOfList at.now.kind 3 (slice_index walk.now at.now.kind - 1)) }
     ensures named { IfOk result (λ id. id < length ctx.now.names.now) }
 {
     match kind {
@@ -65,12 +63,12 @@ fn third_name(
 
 /// The segment that a branch makes, or the first of its numbers that is out of its list. The third
 /// name of a site pin isn't looked at; its second one stands there in the record.
-#[tactic(auto, unfolding(ix_message::specs::Reading::row_at, crate::specs::Walked::walked, crate::specs::Views::kind_word, crate::specs::Views::field_word))]
+#[tactic(auto, unfolding(ix_message::specs::Reading::row_at, ix_take::specs::Walked::walked, ix_take::specs::Views::kind_word, ix_take::specs::Views::field_word))]
 pub fn take_segment(o: Obj<'_>, ctx: &Context<'_>, walk: &mut Walk) -> Result<Segment, Stop>
-    ensures made { Takes (segment_row ctx.now.names.now) result walk.new
+    ensures made { Takes counted_structs (segment_row ctx.now.names.now) result walk.new
         (data_of (table_of ctx.now) (row_at segment 0 (object_of o.entry)) segment
         (row_at segment 0 (object_of o.entry)))
-        (walked walk.old (begun "RouteBranch" ∷ ask_row (only_table (length (table_of ctx.now))) []
+        (walked counted_structs walk.old (begun "RouteBranch" ∷ ask_row (only_table (length (table_of ctx.now))) []
         "RouteBranch" (row_at segment 0 (object_of o.entry)) segment
         (row_at segment 0 (object_of o.entry)))) }
     ensures named { IfOk result (λ s. (d : ℕ) → IsSegmentNamed ctx.now.names.now

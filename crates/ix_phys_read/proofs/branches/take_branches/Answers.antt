@@ -12,12 +12,13 @@ use Rattle.ix_message.specs.Shape.{preorder}
 use Rattle.ix_phys_write.specs.Record.{IsSegmentNamed}
 use Rattle.ix_schema.specs.Said.{branches_said}
 use Rattle.ix_phys_read.specs.declared.branches.Open.{Open}
-use Rattle.ix_phys_read.specs.Views.{table_of, Stops}
-use Rattle.ix_phys_read.specs.Walked.{walked}
+use Rattle.ix_take.specs.Views.{table_of, Stops}
+use Rattle.ix_take.specs.Walked.{walked}
+use Rattle.ix_phys_read.specs.Walked.{counted_structs}
 use Rattle.ix_phys_read.proofs.Opened.{few_branches}
 use Rattle.ix_phys_read.proofs.Stacks.{begins, one_done, one_stops, goes_on, depth_fits, depth_few, many, more, all_fit, all_made, nothing_in}
 use Rattle.ix_phys_read.proofs.Steps.{item_steps}
-use Rattle.ix_phys_read.proofs.Stops.{stops_on}
+use Rattle.ix_take.specs.Going.{stops_on}
 use Rattle.ix_phys_read.proofs.branches.take_branches.Goals as goal
 
 pub loop-top-init : goal.loop-top-init
@@ -41,8 +42,8 @@ returns-in_err-segment-clause-made c =
     let whole = branches_said segment (elements_of c.args.l) endless in
     let x = c.in-Some.top in
     let p = err_from_is_err_and c.from_residual-in_err-segment.result c.from_residual-in_err-segment.ensures.1 in
-    let here : Stops c.in_err-segment.field-0.0 (walked c.loop-top.walk (item_steps lists (x.depth, row_at segment 0 (element_of (elements_of x.list) x.next)))) = rw c.at-o.ensures at c.in_err-segment.ensures.made in
-    rw (p.1, p.2) (stops_on c.in_err-segment.field-0.0 (walked c.loop-top.walk (item_steps lists (x.depth, row_at segment 0 (element_of (elements_of x.list) x.next)))) (walked c.args.walk.now (branch_steps lists "RouteBranch" segment whole)) here (λ bad fails.
+    let here : Stops counted_structs c.in_err-segment.field-0.0 (walked counted_structs c.loop-top.walk (item_steps lists (x.depth, row_at segment 0 (element_of (elements_of x.list) x.next)))) = rw c.at-o.ensures at c.in_err-segment.ensures.made in
+    rw (p.1, p.2) (stops_on counted_structs c.in_err-segment.field-0.0 (walked counted_structs c.loop-top.walk (item_steps lists (x.depth, row_at segment 0 (element_of (elements_of x.list) x.next)))) (walked counted_structs c.args.walk.now (branch_steps lists "RouteBranch" segment whole)) here (λ bad fails.
     one_stops names table lists whole c.args.walk.now c.loop-top.stack.items c.pop.new.self.items x c.loop-top.found c.loop-top.walk bad c.in-Some.ensures.items (rw c.len.ensures at c.if-top-len.true) fails c.loop-top.invariant.taken))
 
 pub push-requires : goal.push-requires

@@ -7,7 +7,7 @@ use Rattle.ix_message.specs.Phys.{segment}
 use Rattle.ix_message.specs.Shape.{preorder}
 use Rattle.ix_schema.specs.Said.{branches_said}
 use Rattle.ix_phys_write.specs.Record.{IsSegmentNamed}
-use Rattle.ix_phys_read.specs.Views.{table_of}
+use Rattle.ix_take.specs.Views.{table_of}
 use Rattle.ix_phys_read.proofs.Stacks.{Taken}
 use Rattle.ix_phys_read.proofs.branches.take_branches.Given as goal
 

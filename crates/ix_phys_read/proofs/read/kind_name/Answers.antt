@@ -1,6 +1,6 @@
 use Rattle.std.proofs.Common.{◌∙◌, refl}
 use Rattle.ix_schema.specs.Structs.{phys_structs}
-use Rattle.ix_phys_read.specs.Views.{kind_word}
+use Rattle.ix_take.specs.Views.{kind_word}
 use Rattle.ix_phys_read.proofs.Words.{kind_in_table}
 use Rattle.ix_phys_read.proofs.read.kind_name.Goals as goal
 

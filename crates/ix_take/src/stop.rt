@@ -1,7 +1,7 @@
 //! Why the numbers of a message make no record.
 
 ghost use Rattle.std.specs.Prelude.{◌≡◌};
-ghost use Rattle.ix_phys_read.specs.declared.stop.Stop.TheVariants.{Memory as NoMemory};
+ghost use Rattle.ix_take.specs.declared.stop.Stop.TheVariants.{Memory as NoMemory};
 
 use ix_num::Memory;
 

@@ -3,7 +3,7 @@ use Rattle.ix_device_read.specs.Loose.{with_names, AreNumbersOf}
 use Rattle.ix_frame.specs.Views.{text_elements}
 use Rattle.ix_schema.specs.Said.{texts_said}
 use Rattle.ix_strings.specs.Names.{KeepsNumbers}
-use Rattle.ix_phys_read.proofs.names.add_table.Given as goal
+use Rattle.ix_take.proofs.names.add_table.Given as goal
 
 abbrev pub invariant-loop-i : goal.invariant-loop-i
 invariant-loop-i l = record {

@@ -6,8 +6,8 @@ use Rattle.ix_frame.specs.Views.{text_elements}
 use Rattle.ix_message.specs.Shape.{Text}
 use Rattle.ix_schema.specs.Said.{texts_said}
 use Rattle.ix_strings.specs.Names.{with_name}
-use Rattle.ix_phys_read.proofs.Texts.{with_names_on, numbers_keep, numbers_push, taken_more, text_said_at, texts_length}
-use Rattle.ix_phys_read.proofs.names.add_table.Goals as goal
+use Rattle.ix_take.proofs.Texts.{with_names_on, numbers_keep, numbers_push, taken_more, text_said_at, texts_length}
+use Rattle.ix_take.proofs.names.add_table.Goals as goal
 
 pub add-requires : goal.add-requires
 add-requires c =

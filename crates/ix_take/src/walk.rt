@@ -5,8 +5,8 @@ ghost use Rattle.ix_device_read.specs.Finish.{with_one_more};
 
 use std::marker::Model;
 
-/// How many kinds of structs a physical netlist has.
-pub const KINDS: usize = 7;
+/// How many kinds of structs are counted at most.
+pub const KINDS: usize = 32;
 
 /// How many structs of each kind were begun so far, in reading order. A count stays at 2^32 - 1,
 /// which no message reaches.
@@ -26,7 +26,7 @@ impl Model for Walk {
 impl Walk {
     /// Nothing was begun.
     pub fn new() -> Walk
-        ensures { result ≡ replicate 7 0 }
+        ensures { result ≡ replicate 32 0 }
     {
         Walk { counts: [0; KINDS] }
     }

@@ -5,6 +5,7 @@ ghost use Rattle.ix_rec.specs.Ranges.{IndexesFit};
 
 use crate::asked::Asked;
 use crate::bytes::changed_bytes;
+use crate::constants::put_constants;
 use crate::ends::put_segment;
 use crate::graph::put_graph;
 use crate::lookups::put_told;
@@ -29,6 +30,7 @@ fn put_by_graph(
     match NodeGraph::build(alloc, asked.device) {
         Ok(graph) => match field(line, 1) {
             "graph" => put_graph(text, &graph, asked),
+            "constants" => put_constants(text, alloc, &graph, asked, field(line, 3)),
             "ends" => put_segment(text, &graph, asked, field(line, 3)),
             _ => text.push_str("no such call"),
         },

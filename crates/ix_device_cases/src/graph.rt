@@ -16,7 +16,8 @@ use std::alloc::AllocError;
 /// The most edges of a node that are all told.
 const MOST_TOLD: u32 = 8;
 
-fn constant_word(constant: Option<Constant>) -> &'static str {
+/// The word of a constant, or of none.
+pub fn constant_word(constant: Option<Constant>) -> &'static str {
     match constant {
         Some(Constant::Gnd) => "gnd",
         Some(Constant::Vcc) => "vcc",

@@ -8,6 +8,8 @@
 //!   changes of bytes, as `708=3`.
 //! - `ask`: a look-up by names.
 //! - `graph`: the nodes and edges of its graph.
+//! - `constants`: the nodes of each constant, and for which constant cells stand; the words are
+//!   names of cell types.
 //! - `ends`: the ends of a segment, and of a PIP its number and place.
 //!
 //! The files were made by another program from records that were written by hand, and the answers
@@ -17,6 +19,7 @@
 mod answer;
 mod asked;
 mod bytes;
+mod constants;
 mod ends;
 mod graph;
 mod lookups;

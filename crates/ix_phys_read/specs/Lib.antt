@@ -1,0 +1,6 @@
+-- What public contracts say.
+pub mod Again
+-- For private contracts and proofs.
+pub mod Sound
+pub mod Views
+pub mod Walked

@@ -1,5 +1,5 @@
 -- Counts of cells and of BELs, one by one.
-use Rattle.std.proofs.Common.{◌≡◌, ◌≢◌, refl, ap, sym, subst, ◌∙◌, IsSome, is_none, ℕ, suc, ◌+◌, ◌<◌, ◌≤◌, List, take, length, slice_get, Option, Some, None, unwrap_or, Bool, true, false, cond, nat_eq, arith}
+use Rattle.std.proofs.Common.{◌≡◌, ◌≢◌, refl, ap, sym, subst, ◌∙◌, IfSome, IsSome, is_none, ℕ, zero, suc, ◌+◌, ◌<◌, ◌≤◌, List, [], ◌∷◌, take, length, slice_get, Option, Some, None, unwrap_or, Bool, true, false, cond, nat_eq, arith}
 use Rattle.std.proofs.lemmas.Option.{same_Some, slice_get_within, get_or_from_slice_get}
 use Rattle.std.proofs.lemmas.Bool.{eqb-true, eqb-false, true≢false, false≢true}
 use Rattle.std.proofs.lemmas.List.Sums.{sum_by_more, count_by-le-length}
@@ -7,7 +7,8 @@ use Rattle.ix_first.specs.First.{or_later}
 use Rattle.ix_rec.specs.declared.device.DeviceRec.{DeviceRec}
 use Rattle.ix_rec.specs.declared.flow.FlatCell.{FlatCell}
 use Rattle.std.proofs.lemmas.List.{length-take-le}
-use Rattle.ix_belmap.specs.Counts.{count_below, cells_of_type, AreEnough}
+use Rattle.ix_belmap.specs.Counts.{cells_of_type, AreEnough}
+use Rattle.ix_belmap.specs.Sites.{count_below}
 
 pub count_next : (p : ℕ → Bool) (n : ℕ) → count_below p (n + 1) ≡ count_below p n + cond (p n) 1 0
 unfolding count_below

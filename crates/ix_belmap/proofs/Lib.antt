@@ -2,3 +2,9 @@ pub mod Sums
 pub mod Counting
 pub mod Named
 pub mod BelSums
+pub mod Staying
+pub mod Rows
+pub mod Once
+pub mod Sorted
+pub mod Values
+pub mod Failures

@@ -1,3 +1,4 @@
+pub mod Lists
 pub mod Sums
 pub mod Counting
 pub mod Named
@@ -8,3 +9,5 @@ pub mod Once
 pub mod Sorted
 pub mod Values
 pub mod Failures
+pub mod Bits
+pub mod FixedPorts

@@ -11,3 +11,4 @@ pub mod Values
 pub mod Failures
 pub mod Bits
 pub mod FixedPorts
+pub mod Pinned

@@ -1,8 +1,9 @@
 -- Lists, one item at a time.
-use Rattle.std.proofs.Common.{◌≡◌, ◌≢◌, refl, ap, sym, subst, ◌∙◌, ℕ, zero, suc, ◌+◌, ◌≤◌, List, []}
-use Rattle.std.proofs.Common.{◌∷◌, ◌++◌, map, take, length, slice_get, Some, None, Bool, true, false}
-use Rattle.std.proofs.Common.{◌||◌, nat_eq, arith}
-use Rattle.std.specs.List.{AllByRecursion, list_any, range_with_len}
+use Rattle.std.proofs.Common.{◌≡◌, ◌≢◌, refl, ap, sym, subst, ◌∙◌, ℕ, zero, suc, ◌+◌, ◌<◌, ◌≤◌, List}
+use Rattle.std.proofs.Common.{[], ◌∷◌, ◌++◌, map, take, length, set, slice_get, Some, None, Bool, true}
+use Rattle.std.proofs.Common.{false, cond, ◌&&◌, ◌||◌, nat_eq, arith}
+use Rattle.std.specs.List.{AllByRecursion, filter, list_any, range_with_len}
+use Rattle.std.proofs.lemmas.List.Elements.{filter-append}
 use Rattle.std.proofs.lemmas.Bool.{eqb-true, eqb-false}
 use Rattle.std.proofs.lemmas.List.Folds.{list_any-append}
 use Rattle.std.proofs.lemmas.List.{append_assoc}
@@ -112,3 +113,67 @@ eq_not a b differ = by (nat_eq a b) refl
     by : (x : Bool) → nat_eq a b ≡ x → x ≡ false
     by true e = absurd (differ (eqb-true a b e))
     by false e = refl
+
+-- what stands in a list with another item at a place
+pub set_here : {A : Type 0} (xs : List A) (i : ℕ) (y : A) → i < length xs
+    → slice_get (set xs i y) i ≡ Some y
+set_here [] i y lt = absurd (omega arith)
+set_here (x ∷ xs) zero y lt = refl
+set_here (x ∷ xs) (suc i) y lt = set_here xs i y (omega arith)
+
+pub set_other : {A : Type 0} (xs : List A) (i q : ℕ) (y : A) → i ≢ q
+    → slice_get (set xs i y) q ≡ slice_get xs q
+set_other [] i q y differ = refl
+set_other (x ∷ xs) zero zero y differ = absurd (differ refl)
+set_other (x ∷ xs) zero (suc q) y differ = refl
+set_other (x ∷ xs) (suc i) zero y differ = refl
+set_other (x ∷ xs) (suc i) (suc q) y differ = set_other xs i q y (λ e. differ (ap suc e))
+
+pub there : {A : Type 0} (xs : List A) (i : ℕ) → i < length xs → slice_get xs i ≢ None
+there [] i lt h = omega arith
+there (x ∷ xs) zero lt h = none-some x (sym h)
+there (x ∷ xs) (suc i) lt h = there xs i (omega arith) h
+
+-- what holds of all items holds of one between two parts
+pub between : {A : Type 0} (P : A → Type 0) (xs : List A) (x : A) (ys : List A)
+    → AllByRecursion P (xs ++ x ∷ ys) → P x
+between P [] x ys all = all.0
+between P (z ∷ xs) x ys all = between P xs x ys all.1
+
+-- what a filter leaves where another leaves nothing
+pub filter_less : {A : Type 0} (p q : A → Bool) (xs : List A) → ((x : A) → p x ≡ false → q x ≡ false)
+    → filter p xs ≡ [] → filter q xs ≡ []
+filter_less p q [] less h = refl
+filter_less p q (x ∷ xs) less h = by (filter_less p q xs less) (p x) refl h
+  where
+    some : x ∷ filter p xs ≡ [] → ⊥
+    some k = let long : suc (length (filter p xs)) ≡ 0 = ap length k in omega arith
+
+    by : (filter p xs ≡ [] → filter q xs ≡ []) → (b : Bool) → p x ≡ b
+        → cond b (x ∷ filter p xs) (filter p xs) ≡ [] → filter q (x ∷ xs) ≡ []
+    by rest true e g = absurd (some g)
+    by rest false e g = ap (λ b. cond b (x ∷ filter q xs) (filter q xs)) (less x e) ∙ rest g
+
+pub filter_same : {A : Type 0} (p q : A → Bool) (xs : List A) → ((x : A) → p x ≡ q x)
+    → filter p xs ≡ filter q xs
+filter_same p q [] same = refl
+filter_same p q (x ∷ xs) same =
+    ap (λ b. cond b (x ∷ filter p xs) (filter p xs)) (same x)
+    ∙ ap (λ l. cond (q x) (x ∷ l) l) (filter_same p q xs same)
+
+pub filter_twice : {A : Type 0} (p q : A → Bool) (xs : List A)
+    → filter p (filter q xs) ≡ filter (λ x. q x && p x) xs
+filter_twice p q [] = refl
+filter_twice p q (x ∷ xs) = by (filter_twice p q xs) (q x)
+  where
+    by : filter p (filter q xs) ≡ filter (λ x. q x && p x) xs → (b : Bool)
+        → filter p (cond b (x ∷ filter q xs) (filter q xs))
+        ≡ cond (b && p x) (x ∷ filter (λ x. q x && p x) xs) (filter (λ x. q x && p x) xs)
+    by rest true = ap (λ l. cond (p x) (x ∷ l) l) rest
+    by rest false = rest
+
+-- the items that pass among the first, with one more
+pub filter_more : {A : Type 0} (p : A → Bool) (xs : List A) (i : ℕ) (x : A) → slice_get xs i ≡ Some x
+    → filter p (take (i + 1) xs) ≡ filter p (take i xs) ++ cond (p x) (x ∷ []) []
+filter_more p xs i x at =
+    ap (filter p) (take_more xs i x at) ∙ filter-append p (take i xs) (x ∷ [])

@@ -12,3 +12,4 @@ pub mod Failures
 pub mod Bits
 pub mod FixedPorts
 pub mod Pinned
+pub mod Marking

@@ -177,3 +177,24 @@ pub filter_more : {A : Type 0} (p : A → Bool) (xs : List A) (i : ℕ) (x : A) 
     → filter p (take (i + 1) xs) ≡ filter p (take i xs) ++ cond (p x) (x ∷ []) []
 filter_more p xs i x at =
     ap (filter p) (take_more xs i x at) ∙ filter-append p (take i xs) (x ∷ [])
+
+pub all_taken : {A : Type 0} (P : A → Type 0) (xs : List A) (n : ℕ) → AllByRecursion P xs
+    → AllByRecursion P (take n xs)
+all_taken P [] zero all = tt
+all_taken P [] (suc n) all = tt
+all_taken P (x ∷ xs) zero all = tt
+all_taken P (x ∷ xs) (suc n) all = (all.0, all_taken P xs n all.1)
+
+pub all_passing : {A : Type 0} (P : A → Type 0) (p : A → Bool) (xs : List A) → AllByRecursion P xs
+    → AllByRecursion P (filter p xs)
+all_passing P p [] all = tt
+all_passing P p (x ∷ xs) all = by (all_passing P p xs all.1) (p x)
+  where
+    by : AllByRecursion P (filter p xs) → (b : Bool) → AllByRecursion P (cond b (x ∷ filter p xs) (filter p xs))
+    by rest true = (all.0, rest)
+    by rest false = rest
+
+-- the numbers of a range are below its end
+pub all_in_range : (a n end : ℕ) → a + n ≤ end → AllByRecursion (λ x. x < end) (range_with_len a n)
+all_in_range a zero end le = tt
+all_in_range a (suc n) end le = (omega arith, all_in_range (a + 1) n end (omega arith))

@@ -92,8 +92,9 @@ fn gathered(
         if group.len() > MOST {
             return Ok((group, i));
         }
-        if is_free(device, flat, taken, known, port_type, row[i])? {
-            group.push(row[i])?;
+        let cell = row[i];
+        if is_free(device, flat, taken, known, port_type, cell)? {
+            group.push(cell)?;
         }
     }
     Ok((group, row.len()))

@@ -1,43 +1,71 @@
-use Rattle.std.proofs.Common.{rules, ◌≡◌, ◌<◌, ◌≤◌, ℕ, List, [], ◌∷◌, Some, false, length, slice_get, take, IfOk, OnOk, ◌+◌, ◌-◌, ◌*◌, ◌/◌, ◌%◌, Bool, true, nat_eq, nat_lt, ◌++◌, slice_index_or, slice_set, bit_and, bit_or, Fits, w8, w32, w64, Bor, MutBor}
-use Rattle.std.specs.List.{AllByRecursion}
-use Rattle.ix_rec.specs.declared.device.DeviceRec.{DeviceRec as RecSeen}
-use Rattle.ix_rec.specs.declared.flow.Flat.{Flat as FlatSeen}
-use Rattle.ix_belmap.specs.Groups.{net_of_port}
-use Rattle.ix_belmap.specs.Marks.{AddsMarks, AreCells, AreMarks, AreRows, IsPassed, Knows, free_of, group_by_marks, is_free_for, is_marked, lists_of}
+use Rattle.std.proofs.Common.{◌≡◌, ◌≤◌, ◌<◌, ◌+◌, ◌++◌, [], ◌∷◌, refl, ap, sym, ◌∙◌, cond, length, take, Some, append-nil, arith}
+use Rattle.std.proofs.lemmas.List.{length_push}
+use Rattle.std.proofs.lemmas.Option.{slice_get_read}
+use Rattle.ix_belmap.specs.Marks.{free_of}
+use Rattle.ix_belmap.proofs.Marking.{all_looked, free_more, full}
 use Rattle.ix_belmap.proofs.marks.gathered.Goals as goal
+use Rattle.ix_belmap.proofs.marks.gathered.Goals.{then-branch+in_ok-push-2, else-branch}
 
--- src/marks.rt:91:5
 pub loop-i-init : goal.loop-i-init
-loop-i-init c = ?
+loop-i-init c =
+    let one : c.push.new.self.items ≡ c.args.port ∷ [] = c.in_ok-push.ensures.items
+        ∙ ap (λ l. l ++ c.args.port ∷ []) c.new-group.ensures.items in
+    let short : length c.push.new.self.items ≡ 1 = ap length one in
+    (one ∙ ap (λ l. c.args.port ∷ l) (sym c.requires.passed), omega arith, c.requires.known)
 
--- src/marks.rt:93:13
 pub returns-then-len-gt-MOST-clause-group : goal.returns-then-len-gt-MOST-clause-group
-returns-then-len-gt-MOST-clause-group c = ?
+returns-then-len-gt-MOST-clause-group c =
+    let short = c.loop-i.invariant.1 in
+    full c.args.device.now c.args.flat.now c.args.taken.now.items c.args.port_type c.args.row.now.items c.loop-i.i
+        c.args.port c.loop-i.group.items c.loop-i.invariant.0 (omega arith)
 
--- src/marks.rt:93:13
 pub returns-then-len-gt-MOST-clause-looked : goal.returns-then-len-gt-MOST-clause-looked
-returns-then-len-gt-MOST-clause-looked c = ?
+returns-then-len-gt-MOST-clause-looked c = c.loop-i.invariant.0
 
--- src/marks.rt:93:13
 pub returns-then-len-gt-MOST-clause-known : goal.returns-then-len-gt-MOST-clause-known
-returns-then-len-gt-MOST-clause-known c = ?
+returns-then-len-gt-MOST-clause-known c = c.loop-i.invariant.2
 
--- src/marks.rt:95:12
 pub is_free-requires-clause-known : goal.is_free-requires-clause-known
-is_free-requires-clause-known c = ?
+is_free-requires-clause-known c = c.loop-i.invariant.2
 
--- src/marks.rt:91:5
 pub loop-i-preserved : goal.loop-i-preserved
-loop-i-preserved c = ?
+loop-i-preserved c =
+    let row = c.args.row.now.items in
+    let group = c.loop-i.group.items in
+    let at = slice_get_read row (length row) c.loop-i.i c.index-cell.result.now refl (omega arith) c.index-cell.ensures in
+    let grown = free_more c.args.device.now c.args.flat.now c.args.taken.now.items c.args.port_type row c.loop-i.i
+        c.index-cell.result.now c.args.port group c.in_ok-is_free.field-0 at c.loop-i.invariant.0
+        c.in_ok-is_free.ensures.free in
+    elim c.if-branch.branch [
+      | then-branch+in_ok-push-2 w ↦
+          let pushed : c.if-branch.group.items ≡ group ++ c.index-cell.result.now ∷ []
+              = ap (λ v. v.items) w.group-is ∙ w.in_ok-push-2.ensures.items in
+          let long : length c.if-branch.group.items ≡ length group + 1
+              = ap length pushed ∙ length_push group c.index-cell.result.now in
+          let few = c.if-len-gt-MOST.false in
+          (pushed ∙ ap (λ b. group ++ cond b (c.index-cell.result.now ∷ []) []) (sym w.if-branch.true) ∙ grown,
+              omega arith, c.in_ok-is_free.ensures.known)
+      | else-branch w ↦
+          let kept : c.if-branch.group.items ≡ group = ap (λ v. v.items) w.group-is in
+          let long : length c.if-branch.group.items ≡ length group = ap length kept in
+          let few = c.loop-i.invariant.1 in
+          (kept ∙ sym (append-nil group)
+              ∙ ap (λ b. group ++ cond b (c.index-cell.result.now ∷ []) []) (sym w.if-branch.false) ∙ grown,
+              omega arith, c.in_ok-is_free.ensures.known)
+    ]
 
--- src/marks.rt:66:1
 pub returns-clause-group : goal.returns-clause-group
-returns-clause-group c = ?
+returns-clause-group c =
+    all_looked c.args.device.now c.args.flat.now c.args.taken.now.items c.args.port_type c.args.row.now.items c.loop-i.i
+        c.args.port c.loop-i.group.items c.loop-i.invariant.0 c.loop-i.invariant.1 (omega arith)
 
--- src/marks.rt:66:1
 pub returns-clause-looked : goal.returns-clause-looked
-returns-clause-looked c = ?
+returns-clause-looked c =
+    let le = c.loop-i.auto.i-end (let r = c.requires.from in omega arith) in
+    let end : c.loop-i.i ≡ c.len-2.result = omega arith in
+    c.loop-i.invariant.0
+    ∙ ap (λ n. c.args.port ∷ free_of c.args.device.now c.args.flat.now c.args.taken.now.items c.args.port_type
+        (take n c.args.row.now.items)) end
 
--- src/marks.rt:66:1
 pub returns-clause-known : goal.returns-clause-known
-returns-clause-known c = ?
+returns-clause-known c = c.loop-i.invariant.2

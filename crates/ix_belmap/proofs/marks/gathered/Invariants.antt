@@ -1,10 +1,9 @@
-use Rattle.std.proofs.Common.{◌≡◌, ◌<◌, ◌≤◌, ℕ, List, [], ◌∷◌, Some, false, length, slice_get, take, IfOk, OnOk, ◌+◌, ◌-◌, ◌*◌}
-use Rattle.std.specs.List.{AllByRecursion}
-use Rattle.ix_rec.specs.declared.device.DeviceRec.{DeviceRec as RecSeen}
-use Rattle.ix_rec.specs.declared.flow.Flat.{Flat as FlatSeen}
-use Rattle.ix_belmap.specs.Groups.{net_of_port}
-use Rattle.ix_belmap.specs.Marks.{AddsMarks, AreCells, AreMarks, AreRows, IsPassed, Knows, free_of, group_by_marks, is_free_for, is_marked, lists_of}
+use Rattle.std.proofs.Common.{◌≡◌, ◌≤◌, ◌∷◌, length, take}
+use Rattle.ix_belmap.specs.Marks.{Knows, free_of}
 use Rattle.ix_belmap.proofs.marks.gathered.Given as goal
 
+-- the free cells so far
 abbrev pub invariant-loop-i : goal.invariant-loop-i
-invariant-loop-i l = ?
+invariant-loop-i l =
+    (l.group.items ≡ l.fn.port ∷ free_of l.device l.flat l.taken.items l.port_type (take l.i l.row.items))
+    × (length l.group.items ≤ 9) × Knows l.device l.known

@@ -1,27 +1,36 @@
-use Rattle.std.proofs.Common.{rules, ◌≡◌, ◌<◌, ◌≤◌, ℕ, List, [], ◌∷◌, Some, false, length, slice_get, take, IfOk, OnOk, ◌+◌, ◌-◌, ◌*◌, ◌/◌, ◌%◌, Bool, true, nat_eq, nat_lt, ◌++◌, slice_index_or, slice_set, bit_and, bit_or, Fits, w8, w32, w64, Bor, MutBor}
-use Rattle.std.specs.List.{AllByRecursion}
-use Rattle.ix_rec.specs.declared.device.DeviceRec.{DeviceRec as RecSeen}
-use Rattle.ix_rec.specs.declared.flow.Flat.{Flat as FlatSeen}
-use Rattle.ix_belmap.specs.Groups.{net_of_port}
-use Rattle.ix_belmap.specs.Marks.{AddsMarks, AreCells, AreMarks, AreRows, IsPassed, Knows, free_of, group_by_marks, is_free_for, is_marked, lists_of}
+use Rattle.std.proofs.Common.{◌≡◌, ◌<◌, ◌≤◌, refl, ap, sym, subst, ◌∙◌, length, length-set, slice_get, slice_index_or, Some, true, arith}
+use Rattle.std.proofs.lemmas.Option.{slice_get_read}
+use Rattle.ix_belmap.specs.Marks.{AddsMarks}
+use Rattle.ix_belmap.proofs.Lists.{among, take_all}
+use Rattle.ix_belmap.proofs.Marking.{marks_more, marks_none}
 use Rattle.ix_belmap.proofs.marks.mark.Goals as goal
 
--- src/marks.rt:108:5
 pub loop-i-init : goal.loop-i-init
-loop-i-init c = ?
+loop-i-init c = (refl, marks_none c.args.taken.now.items c.args.cells.now.items)
 
--- src/marks.rt:109:9
 pub index_mut-requires : goal.index_mut-requires
-index_mut-requires c = ?
+index_mut-requires c =
+    let cells = c.args.cells.now.items in
+    let at = slice_get_read cells (length cells) c.loop-i.i c.index.result.now refl (omega arith) c.index.ensures in
+    let lt : c.index.result.now < length c.args.taken.now.items
+        = among (λ cell. cell < length c.args.taken.now.items) cells c.loop-i.i c.index.result.now c.requires at in
+    let same = c.loop-i.invariant.0 in let is = c.get.ensures in omega arith
 
--- src/marks.rt:108:5
 pub loop-i-preserved : goal.loop-i-preserved
-loop-i-preserved c = ?
+loop-i-preserved c =
+    let cells = c.args.cells.now.items in
+    let at = slice_get_read cells (length cells) c.loop-i.i c.index.result.now refl (omega arith) c.index.ensures in
+    let lt : c.index.result.now < length c.args.taken.now.items
+        = among (λ cell. cell < length c.args.taken.now.items) cells c.loop-i.i c.index.result.now c.requires at in
+    let same = c.loop-i.invariant.0 in let is = c.get.ensures in
+    (length-set c.loop-i.taken.items c.get.result true ∙ same,
+        marks_more cells c.args.taken.now.items c.loop-i.taken.items c.loop-i.i c.get.result
+            (at ∙ ap Some (sym is)) c.loop-i.invariant.1 (omega arith))
 
--- src/marks.rt:103:1
 pub returns-clause-count : goal.returns-clause-count
-returns-clause-count c = ?
+returns-clause-count c = c.loop-i.invariant.0
 
--- src/marks.rt:103:1
 pub returns-clause-marks : goal.returns-clause-marks
-returns-clause-marks c = ?
+returns-clause-marks c =
+    subst (λ l. AddsMarks l c.args.taken.now.items c.loop-i.taken.items)
+        (take_all c.args.cells.now.items c.loop-i.i (omega arith)) c.loop-i.invariant.1

@@ -1,10 +1,9 @@
-use Rattle.std.proofs.Common.{◌≡◌, ◌<◌, ◌≤◌, ℕ, List, [], ◌∷◌, Some, false, length, slice_get, take, IfOk, OnOk, ◌+◌, ◌-◌, ◌*◌}
-use Rattle.std.specs.List.{AllByRecursion}
-use Rattle.ix_rec.specs.declared.device.DeviceRec.{DeviceRec as RecSeen}
-use Rattle.ix_rec.specs.declared.flow.Flat.{Flat as FlatSeen}
-use Rattle.ix_belmap.specs.Groups.{net_of_port}
-use Rattle.ix_belmap.specs.Marks.{AddsMarks, AreCells, AreMarks, AreRows, IsPassed, Knows, free_of, group_by_marks, is_free_for, is_marked, lists_of}
+use Rattle.std.proofs.Common.{◌≡◌, length, take}
+use Rattle.ix_belmap.specs.Marks.{AddsMarks}
 use Rattle.ix_belmap.proofs.marks.mark.Given as goal
 
+-- the first cells are marked
 abbrev pub invariant-loop-i : goal.invariant-loop-i
-invariant-loop-i l = ?
+invariant-loop-i l =
+    (length l.taken.items ≡ length l.fn.taken.items)
+    × AddsMarks (take l.i l.cells.items) l.fn.taken.items l.taken.items

@@ -1,11 +1,11 @@
-use Rattle.std.proofs.Common.{rules, ◌≡◌, ◌<◌, ◌≤◌, ℕ, List, [], ◌∷◌, Some, false, length, slice_get, take, IfOk, OnOk, ◌+◌, ◌-◌, ◌*◌, ◌/◌, ◌%◌, Bool, true, nat_eq, nat_lt, ◌++◌, slice_index_or, slice_set, bit_and, bit_or, Fits, w8, w32, w64, Bor, MutBor}
-use Rattle.std.specs.List.{AllByRecursion}
-use Rattle.ix_rec.specs.declared.device.DeviceRec.{DeviceRec as RecSeen}
-use Rattle.ix_rec.specs.declared.flow.Flat.{Flat as FlatSeen}
-use Rattle.ix_belmap.specs.Groups.{net_of_port}
-use Rattle.ix_belmap.specs.Marks.{AddsMarks, AreCells, AreMarks, AreRows, IsPassed, Knows, free_of, group_by_marks, is_free_for, is_marked, lists_of}
+use Rattle.std.proofs.Common.{◌≡◌, ◌<◌, ◌||◌, [], ◌∷◌, refl, ap, sym, ◌∙◌, length, length-set, nat_eq, true, false, Bool, arith}
+use Rattle.std.specs.List.{list_any}
+use Rattle.ix_belmap.specs.Marks.{AddsMarks, is_marked}
+use Rattle.ix_belmap.proofs.Marking.{mark_alone, marks_stay}
 use Rattle.ix_belmap.proofs.marks.Marks.group_alone.Goals as goal
 
--- src/marks.rt:195:5
 pub returns-clause-marks : goal.returns-clause-marks
-returns-clause-marks c = ?
+returns-clause-marks c rec flat rows are =
+    marks_stay rec flat rows c.args.self.now _ (c.args.port ∷ [])
+        (length-set c.args.self.now.taken.items c.get.result true) refl refl
+        (mark_alone c.args.self.now.taken.items c.get.result c.args.port c.get.ensures c.requires) are

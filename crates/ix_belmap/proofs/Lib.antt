@@ -13,3 +13,4 @@ pub mod Bits
 pub mod FixedPorts
 pub mod Pinned
 pub mod Marking
+pub mod Grouped

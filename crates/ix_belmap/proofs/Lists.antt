@@ -198,3 +198,9 @@ all_passing P p (x ∷ xs) all = by (all_passing P p xs all.1) (p x)
 pub all_in_range : (a n end : ℕ) → a + n ≤ end → AllByRecursion (λ x. x < end) (range_with_len a n)
 all_in_range a zero end le = tt
 all_in_range a (suc n) end le = (omega arith, all_in_range (a + 1) n end (omega arith))
+
+-- what holds of the item at each place holds of all
+pub all_places : {A : Type 0} (P : A → Type 0) (xs : List A)
+    → ((i : ℕ) (x : A) → slice_get xs i ≡ Some x → P x) → AllByRecursion P xs
+all_places P [] each = tt
+all_places P (x ∷ xs) each = (each 0 x refl, all_places P xs (λ i y at. each (suc i) y at))

@@ -1,6 +1,6 @@
 -- Lists, one item at a time.
 use Rattle.std.proofs.Common.{◌≡◌, ◌≢◌, refl, ap, sym, subst, ◌∙◌, ℕ, zero, suc, ◌+◌, ◌<◌, ◌≤◌, List}
-use Rattle.std.proofs.Common.{[], ◌∷◌, ◌++◌, map, take, length, set, slice_get, Some, None, Bool, true}
+use Rattle.std.proofs.Common.{[], ◌∷◌, ◌++◌, map, take, get_or, length, set, slice_get, Some, None, Bool, true}
 use Rattle.std.proofs.Common.{false, cond, ◌&&◌, ◌||◌, nat_eq, arith}
 use Rattle.std.specs.List.{AllByRecursion, filter, list_any, range_with_len}
 use Rattle.std.proofs.lemmas.List.Elements.{filter-append}
@@ -204,3 +204,10 @@ pub all_places : {A : Type 0} (P : A → Type 0) (xs : List A)
     → ((i : ℕ) (x : A) → slice_get xs i ≡ Some x → P x) → AllByRecursion P xs
 all_places P [] each = tt
 all_places P (x ∷ xs) each = (each 0 x refl, all_places P xs (λ i y at. each (suc i) y at))
+
+-- within a list the default doesn't matter
+pub within_default : {A : Type 0} (xs : List A) (i : ℕ) (d e : A) → i < length xs
+    → get_or xs i d ≡ get_or xs i e
+within_default [] i d e lt = absurd (omega arith)
+within_default (x ∷ xs) zero d e lt = refl
+within_default (x ∷ xs) (suc i) d e lt = within_default xs i d e (omega arith)

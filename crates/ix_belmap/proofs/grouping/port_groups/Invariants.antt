@@ -1,9 +1,6 @@
-use Rattle.std.proofs.Common.{◌≡◌, ◌<◌, ◌∷◌, ◌++◌, [], ℕ, length, not, IfOk, ◌+◌, ◌-◌, ◌*◌, ◌≤◌}
-use Rattle.std.specs.List.{AllByRecursion, filter}
-use Rattle.ix_flat.specs.Range.{IsInRange, NumbersFit}
-use Rattle.ix_belmap.specs.Groups.{AreGroups, AreOfPorts, HaveEachOnce, has_cell, is_fixed}
-use Rattle.ix_belmap.specs.Marks.{is_marked}
+use Rattle.ix_belmap.specs.Marks.{lists_of}
+use Rattle.ix_belmap.proofs.Grouped.{AreSoFar}
 use Rattle.ix_belmap.proofs.grouping.port_groups.Given as goal
 
 abbrev pub invariant-loop-port : goal.invariant-loop-port
-invariant-loop-port l = ?
+invariant-loop-port l = AreSoFar l.device l.flat (lists_of l.rows.items) l.groups l.marks l.port

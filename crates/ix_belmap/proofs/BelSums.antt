@@ -3,7 +3,7 @@ use Rattle.std.proofs.Common.{◌≡◌, ◌≢◌, refl, ap, sym, subst, ◌∙
 use Rattle.std.proofs.lemmas.Bool.{eqb-true, eqb-false, lt-ltb}
 use Rattle.std.proofs.Math.Nat.{mul-le-mul_left}
 use Rattle.std.proofs.lemmas.List.{get_or-set_same, get_or-set_other}
-use Rattle.std.proofs.lemmas.Option.{none-some, same_Some}
+use Rattle.std.proofs.lemmas.Option.{none-some}
 use Rattle.ix_rec.specs.Ranges.{IndexesFit}
 use Rattle.ix_rec.specs.declared.device.DeviceRec.{DeviceRec}
 use Rattle.ix_rec.specs.declared.device.SiteType.{SiteType}
@@ -14,7 +14,7 @@ use Rattle.ix_belmap.specs.Counts.{admits, bels_at, bels_in_type, bels_of_device
 use Rattle.ix_belmap.specs.Groups.{is_home}
 use Rattle.ix_belmap.specs.Sites.{count_below, is_of_type, sites_of_type, sum_below}
 use Rattle.ix_belmap.proofs.Counting.{count_next}
-use Rattle.ix_belmap.proofs.Sums.{is_count, is_sum, of_first, is_type, one_more_type, no_type, all_types, sum_most, first_most}
+use Rattle.ix_belmap.proofs.Sums.{is_count, is_sum, of_first, one_more_type, no_type, all_types, sum_most, first_most}
 
 -- a BEL of a site type admits a cell type
 abbrev pub takes_in : DeviceRec → (ty t bel : ℕ) → Bool

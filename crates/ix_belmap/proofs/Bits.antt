@@ -1,11 +1,10 @@
 -- The bits of the top's ports, port by port.
-use Rattle.std.proofs.Common.{◌≡◌, refl, ap, sym, subst, ◌∙◌, ℕ, ◌+◌, ◌<◌, List, [], ◌∷◌, ◌++◌, map, take, length, slice_get, Option, Some, None, IfSome, nat_eq, append-nil, option_map, unwrap_or, arith}
+use Rattle.std.proofs.Common.{◌≡◌, refl, ap, sym, subst, ◌∙◌, ℕ, ◌+◌, ◌<◌, List, [], ◌∷◌, ◌++◌, map, take, length, slice_get, Some, IfSome, append-nil, option_map, unwrap_or}
 use Rattle.std.specs.List.{AllByRecursion, cons_option, filter_map, flat_map}
 use Rattle.std.proofs.lemmas.Grind.{flat_map-append}
 use Rattle.std.proofs.lemmas.List.{map-append}
 use Rattle.std.proofs.lemmas.List.Concat.{flat_map-cons}
 use Rattle.std.proofs.lemmas.List.Elements.{filter_map-append}
-use Rattle.ix_keys.specs.Keys.{name_key}
 use Rattle.ix_rec.specs.declared.device.DeviceRec.{DeviceRec}
 use Rattle.ix_rec.specs.declared.device.PackagePin.{PackagePin}
 use Rattle.ix_rec.specs.declared.netlist.CellDeclaration.{CellDeclaration}
@@ -35,7 +34,7 @@ ports_next f design top i k port before now at is so_far grown =
     ∙ ap (λ l. map f (bits_of ports) ++ l) (sym (map_map f (λ index. (port, index)) (bits_of_port port)))
     ∙ sym (map-append f (bits_of ports) (bits port))
     ∙ ap (map f) (ap (λ l. bits_of ports ++ l) (sym (flat_map-cons bits port [] ∙ append-nil (bits port)))
-        ∙ sym (flat_map-append bits ports (port ∷ [])))
+    ∙ sym (flat_map-append bits ports (port ∷ [])))
     ∙ ap (λ l. map f (bits_of l)) (sym next)
   where
     ports : List Port
@@ -61,9 +60,9 @@ all_ports names rec design pins top n all at end is told =
     told
     ∙ ap (λ p. map (fixing_of names rec p) (bits_of (first_ports design top n))) is
     ∙ ap (λ l. map (fixing_of names rec (package_pins names rec design))
-        (bits_of (filter_map (slice_get design.port_list) l))) (take_all top.ports n end)
+    (bits_of (filter_map (slice_get design.port_list) l))) (take_all top.ports n end)
     ∙ ap (λ o. map (fixing_of names rec (package_pins names rec design))
-        (bits_of (unwrap_or (option_map (λ t. filter_map (slice_get design.port_list) t.ports) o) []))) (sym at)
+    (bits_of (unwrap_or (option_map (λ t. filter_map (slice_get design.port_list) t.ports) o) []))) (sym at)
 
 -- a port of the top is there
 pub port_there : (design : NetlistRec) (top : CellDeclaration) (i k : ℕ) → TopFits design
@@ -71,12 +70,12 @@ pub port_there : (design : NetlistRec) (top : CellDeclaration) (i k : ℕ) → T
     → k < length design.port_list
 port_there design top i k fits at here =
     among (λ port. port < length design.port_list) top.ports i k
-        (subst (λ o. IfSome o (λ t. AllByRecursion (λ port. port < length design.port_list) t.ports)) at fits.ports)
-        here
+    (subst (λ o. IfSome o (λ t. AllByRecursion (λ port. port < length design.port_list) t.ports)) at fits.ports)
+    here
 
 -- where a bit is fixed
 pub fixing_told : (names : List (List ℕ)) (rec : DeviceRec) (pins : List PackagePin) (port : Port) (index : ℕ)
     → fixing_by rec pins (property names port.prop_map.entries (pin_key port.kind index))
-        ≡ fixing_of names rec pins (port, index)
+    ≡ fixing_of names rec pins (port, index)
 unfolding fixing_of
 fixing_told names rec pins port index = refl

@@ -1,5 +1,5 @@
 -- Counts of cells and of BELs, one by one.
-use Rattle.std.proofs.Common.{◌≡◌, ◌≢◌, refl, ap, sym, subst, ◌∙◌, IfSome, IsSome, is_none, ℕ, zero, suc, ◌+◌, ◌<◌, ◌≤◌, List, [], ◌∷◌, take, length, slice_get, Option, Some, None, unwrap_or, Bool, true, false, cond, nat_eq, arith}
+use Rattle.std.proofs.Common.{◌≡◌, ◌≢◌, refl, ap, sym, subst, ◌∙◌, IsSome, is_none, ℕ, suc, ◌+◌, ◌<◌, ◌≤◌, List, take, length, slice_get, Option, Some, None, unwrap_or, Bool, true, false, cond, nat_eq, arith}
 use Rattle.std.proofs.lemmas.Option.{same_Some, slice_get_within, get_or_from_slice_get}
 use Rattle.std.proofs.lemmas.Bool.{eqb-true, eqb-false, true≢false, false≢true}
 use Rattle.std.proofs.lemmas.List.Sums.{sum_by_more, count_by-le-length}

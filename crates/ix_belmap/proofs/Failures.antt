@@ -1,9 +1,9 @@
 -- Port cells that fail, one by one, and the sites of fixed ones.
-use Rattle.std.proofs.Common.{◌≡◌, ◌≢◌, refl, ap, sym, subst, ◌∙◌, ℕ, ◌+◌, ◌<◌, ◌≤◌, List, [], ◌∷◌, take, length}
+use Rattle.std.proofs.Common.{◌≡◌, ◌≢◌, refl, ap, sym, ◌∙◌, ℕ, ◌+◌, ◌<◌, ◌≤◌, List, [], ◌∷◌, take, length}
 use Rattle.std.proofs.Common.{slice_get, Option, Some, None, Bool, true, false, not, ◌||◌, nat_eq, option_map}
 use Rattle.std.proofs.Common.{option_and_then, unwrap_or, is_none, is_some, arith}
 use Rattle.std.specs.List.{list_any}
-use Rattle.std.proofs.lemmas.Bool.{eqb-true, eqb-false, true≢false}
+use Rattle.std.proofs.lemmas.Bool.{eqb-true, eqb-false}
 use Rattle.std.proofs.lemmas.Option.{slice_get_within}
 use Rattle.ix_first.specs.First.{or_later}
 use Rattle.ix_belmap.specs.declared.ports.Fixing.{Fixing}

@@ -1,12 +1,12 @@
 -- Ports fixed to sites: their places are those of port cells, and their sites are there.
-use Rattle.std.proofs.Common.{◌≡◌, ap, sym, subst, ◌∙◌, ℕ, ◌<◌, ◌≤◌, List, [], ◌∷◌, length, slice_get, Option, Some}
+use Rattle.std.proofs.Common.{◌≡◌, ap, sym, ◌∙◌, ℕ, ◌<◌, List, [], ◌∷◌, length, slice_get, Option, Some}
 use Rattle.std.proofs.Common.{None, Bool, nat_eq, option_and_then, option_map, refl, arith}
 use Rattle.std.specs.FinMap.{FinMap, get}
 use Rattle.std.specs.List.{position}
 use Rattle.std.specs.Ordering.{nat_cmp}
 use Rattle.std.proofs.lemmas.List.{length-map}
 use Rattle.std.proofs.lemmas.List.Quantifiers.{position-Some}
-use Rattle.std.proofs.lemmas.Option.{none-some, same_Some, slice_get-map, slice_get_within}
+use Rattle.std.proofs.lemmas.Option.{none-some, slice_get-map, slice_get_within}
 use Rattle.ix_rec.specs.declared.device.DeviceRec.{DeviceRec}
 use Rattle.ix_rec.specs.declared.device.PackagePin.{PackagePin}
 use Rattle.ix_rec.specs.declared.device.PackagePinSite.{PackagePinSite}
@@ -17,11 +17,10 @@ use Rattle.ix_rec.specs.declared.flow.Flat.{Flat}
 use Rattle.ix_rec.specs.declared.netlist.NetlistRec.{NetlistRec}
 use Rattle.ix_rec.specs.declared.netlist.Port.{Port}
 use Rattle.ix_rec.specs.declared.netlist.PropertyValue.{PropertyValue}
-use Rattle.ix_device.specs.Lookups.{sites_of, site_named}
+use Rattle.ix_device.specs.Lookups.{sites_of}
 use Rattle.ix_flat.specs.Range.{IsInRange}
 use Rattle.ix_flat.specs.Whole.{HasItsTable, IsDriven, IsWhole, lut_of_type}
 use Rattle.ix_belmap.specs.declared.ports.Fixing.{Fixing}
-use Rattle.ix_belmap.specs.declared.ports.Fixing.TheVariants.{Free, Nowhere, At}
 use Rattle.ix_belmap.specs.Failing.{AreSites}
 use Rattle.ix_belmap.specs.Pins.{HasPortCells, fixed_at, fixed_to, fixing_by, fixing_of, fixings, package_pins, pin_named, port_bits, site_of_bond, site_of_fixing, site_of_pin}
 
@@ -82,8 +81,8 @@ site_there : (names : List (List ℕ)) (rec : DeviceRec) (design : NetlistRec) (
 unfolding fixings
 site_there names rec design cell site h =
     by (slice_get (port_bits design) cell)
-        (sym (ap (option_and_then site_of_fixing)
-            (slice_get-map (fixing_of names rec (package_pins names rec design)) (port_bits design) cell)) ∙ h)
+    (sym (ap (option_and_then site_of_fixing)
+    (slice_get-map (fixing_of names rec (package_pins names rec design)) (port_bits design) cell)) ∙ h)
   where
     by : (o : Option (Port × ℕ))
         → option_and_then site_of_fixing (option_map (fixing_of names rec (package_pins names rec design)) o) ≡ Some site
@@ -130,7 +129,7 @@ module _ (names : List (List ℕ)) (rec : DeviceRec) (design : NetlistRec) (flat
     };
     sites = λ cell site h.
         site_there names rec design cell site
-            (sym (ap (λ l. option_and_then site_of_fixing (slice_get l cell)) is) ∙ sym (told cell) ∙ h);
+        (sym (ap (λ l. option_and_then site_of_fixing (slice_get l cell)) is) ∙ sym (told cell) ∙ h);
   }
 
   driven_kept : (n : ℕ) (driver : Option CellPin) → IsDriven flat n driver

@@ -1,6 +1,6 @@
 -- Groups, port cell by port cell, and their order.
 use Rattle.std.proofs.Common.{◌≡◌, ◌≢◌, refl, ap, sym, subst, ◌∙◌, ℕ, zero, suc, ◌+◌, ◌-◌, ◌<◌, ◌≤◌, List, [], ◌∷◌}
-use Rattle.std.proofs.Common.{◌++◌, length, map, take, slice_get, Bool, true, false, cond, not, ◌&&◌, ◌||◌, nat_eq, nat_lt}
+use Rattle.std.proofs.Common.{◌++◌, length, map, take, slice_get, Bool, true, false, cond, not, ◌&&◌, ◌||◌, nat_eq}
 use Rattle.std.proofs.Common.{Option, Some, None, is_some, append-nil, arith}
 use Rattle.std.specs.FinMap.{entries, get}
 use Rattle.std.specs.List.{AllByRecursion, cons_option, filter, filter_map, list_any, range_with_len}
@@ -15,10 +15,10 @@ use Rattle.ix_rec.specs.declared.device.DeviceRec.{DeviceRec}
 use Rattle.ix_rec.specs.declared.flow.Flat.{Flat}
 use Rattle.ix_flat.specs.Range.{IsCellOf, IsNetOf, NumbersFit}
 use Rattle.ix_belmap.specs.declared.marks.Marks.{Marks}
-use Rattle.ix_belmap.specs.Groups.{AreGroups, AreOfPorts, HaveEachOnce, alone, group_of_port, has_cell, inner_cells, is_fixed, is_on_net_of, may_join, net_of_port, signal, signal_at, signals_of, times_in, types_go}
+use Rattle.ix_belmap.specs.Groups.{AreGroups, AreOfPorts, HaveEachOnce, group_of_port, has_cell, inner_cells, is_fixed, is_on_net_of, may_join, net_of_port, signal, signal_at, signals_of, times_in, types_go}
 use Rattle.ix_belmap.specs.Marks.{AddsMarks, AreMarks, group_by_marks, is_marked}
 use Rattle.ix_belmap.proofs.Lists.{all_places, filter_same}
-use Rattle.ix_belmap.proofs.Once.{IsGroupOf, each_once}
+use Rattle.ix_belmap.proofs.Once.{each_once}
 use Rattle.ix_belmap.proofs.Rows.{range_next}
 
 -- Port cells' nets are there.
@@ -99,9 +99,9 @@ by_groups : (rec : DeviceRec) (flat : Flat) (marks : List Bool) (groups : List (
     → group_by_marks rec flat marks port ≡ group_of_port rec flat groups port
 by_groups rec flat marks groups port marked =
     ap (λ l. port ∷ take 8 l)
-        (filter_same (λ cell. is_on_net_of flat port cell && types_go rec flat port cell && not (is_marked marks cell))
-            (may_join rec flat groups port) (inner_cells flat)
-            (λ cell. ap (λ b. is_on_net_of flat port cell && types_go rec flat port cell && not b) (marked cell)))
+    (filter_same (λ cell. is_on_net_of flat port cell && types_go rec flat port cell && not (is_marked marks cell))
+    (may_join rec flat groups port) (inner_cells flat)
+    (λ cell. ap (λ b. is_on_net_of flat port cell && types_go rec flat port cell && not b) (marked cell)))
 
 -- one group more
 pub so_far_next : (rec : DeviceRec) (flat : Flat) (rows groups now : List (List ℕ)) (old new : Marks) (port : ℕ)
@@ -115,7 +115,7 @@ so_far_next rec flat rows groups now old new port group before pushed is adds ar
       each = λ p lt. by p (nat_eq p port) refl lt;
       marked = λ cell. adds cell ∙ ap (λ b. b || list_any (nat_eq cell) group) (before.marked cell)
           ∙ sym (list_any-append (list_any (nat_eq cell)) groups (group ∷ [])
-              ∙ ap (λ b. has_cell groups cell || b) (or_false (list_any (nat_eq cell) group)));
+          ∙ ap (λ b. has_cell groups cell || b) (or_false (list_any (nat_eq cell) group)));
       are = are;
     })
   where
@@ -124,10 +124,10 @@ so_far_next rec flat rows groups now old new port group before pushed is adds ar
     by p true e lt = let p_is : p ≡ port = eqb-true p port e in
         pushed_at groups group p (before.count ∙ sym p_is)
         ∙ ap Some (is ∙ by_groups rec flat old.taken.items groups port before.marked
-            ∙ sym (ap (λ l. group_of_port rec flat l port)
-                (taken_before groups group port (let c = before.count in omega arith)
-                    ∙ taken_exact groups port before.count))
-            ∙ ap (λ k. group_of_port rec flat (take k (groups ++ group ∷ [])) k) (sym p_is))
+        ∙ sym (ap (λ l. group_of_port rec flat l port)
+        (taken_before groups group port (let c = before.count in omega arith)
+        ∙ taken_exact groups port before.count))
+        ∙ ap (λ k. group_of_port rec flat (take k (groups ++ group ∷ [])) k) (sym p_is))
     by p false e lt =
         let ne : p ≢ port = eqb-false p port e in
         let low : p < port = omega arith in
@@ -181,7 +181,7 @@ parted_no p all first others rest now others_now g before step is pushed = recor
       ∙ ap (λ b. filter p before.done ++ cond b (g ∷ []) []) is ∙ append-nil (filter p before.done));
   failing = pushed ∙ ap (λ l. l ++ g ∷ []) before.failing
       ∙ sym (filter-append (λ h. not (p h)) before.done (g ∷ [])
-          ∙ ap (λ b. filter (λ h. not (p h)) before.done ++ cond (not b) (g ∷ []) []) is);
+      ∙ ap (λ b. filter (λ h. not (p h)) before.done ++ cond (not b) (g ∷ []) []) is);
 }
 
 nothing : (xs : List (List ℕ)) → length xs ≡ 0 → xs ≡ []
@@ -212,8 +212,8 @@ alone_next test before now first ports cell le is grown =
     grown ∙ ap (λ l. l ++ cond (test cell) ((cell ∷ []) ∷ []) []) is
     ∙ append_assoc first (singles (range_with_len ports (cell - ports))) (cond (test cell) ((cell ∷ []) ∷ []) [])
     ∙ ap (λ l. first ++ l) (ap (λ l. singles (range_with_len ports (cell - ports)) ++ l) (sym (single (test cell)))
-        ∙ sym (ap singles long ∙ ap (map (λ q. q ∷ [])) (filter-append test (range_with_len ports (cell - ports)) (cell ∷ []))
-            ∙ map-append (λ q. q ∷ []) (filter test (range_with_len ports (cell - ports))) (cond (test cell) (cell ∷ []) [])))
+    ∙ sym (ap singles long ∙ ap (map (λ q. q ∷ [])) (filter-append test (range_with_len ports (cell - ports)) (cell ∷ []))
+    ∙ map-append (λ q. q ∷ []) (filter test (range_with_len ports (cell - ports))) (cond (test cell) (cell ∷ []) [])))
   where
     singles : List ℕ → List (List ℕ)
     singles xs = map (λ q. q ∷ []) (filter test xs)
@@ -239,9 +239,9 @@ all_groups rec flat of_ports groups first marks are marked sorted told = record 
   are_of_ports = are;
   order = told ∙ ap (λ l. l ++ map (λ q. q ∷ []) (filter (λ q. not (is_marked marks q)) (inner_cells flat))) sorted
       ∙ ap (λ l. filter (is_fixed flat) of_ports ++ filter (λ group. not (is_fixed flat group)) of_ports
-          ++ map (λ q. q ∷ []) l)
-          (filter_same (λ q. not (is_marked marks q)) (λ q. not (has_cell of_ports q)) (inner_cells flat)
-              (λ q. ap not (marked q)));
+      ++ map (λ q. q ∷ []) l)
+      (filter_same (λ q. not (is_marked marks q)) (λ q. not (has_cell of_ports q)) (inner_cells flat)
+      (λ q. ap not (marked q)));
 }
 
 and_false : (b : Bool) → (b && false) ≡ false
@@ -253,21 +253,21 @@ pub once : (rec : DeviceRec) (flat : Flat) (groups : List (List ℕ)) → flat.p
 once rec flat groups le are cell =
     ap (λ l. times_in l cell) are.order
     ∙ each_once (is_fixed flat) are.of_ports flat.ports (length flat.cells) le are.are_of_ports.count
-        (λ port lt. record {
-          most = 8;
-          test = may_join rec flat (take port are.of_ports) port;
-          is = are.are_of_ports.each port lt;
-          apart = λ q h. ap (λ b. is_on_net_of flat port q && types_go rec flat port q && not b) h
-              ∙ and_false (is_on_net_of flat port q && types_go rec flat port q);
-        }) cell
+    (λ port lt. record {
+      most = 8;
+      test = may_join rec flat (take port are.of_ports) port;
+      is = are.are_of_ports.each port lt;
+      apart = λ q h. ap (λ b. is_on_net_of flat port q && types_go rec flat port q && not b) h
+          ∙ and_false (is_on_net_of flat port q && types_go rec flat port q);
+    }) cell
 
 -- each group of a port cell has the port cell
 pub not_empty : (rec : DeviceRec) (flat : Flat) (groups : List (List ℕ)) → AreOfPorts rec flat groups
     → AllByRecursion (λ group. 0 < length group) groups
 not_empty rec flat groups are =
     all_places (λ group. 0 < length group) groups (λ i group at. some group i
-        (same_Some group (group_of_port rec flat (take i groups) i)
-            (sym at ∙ are.each i (let lt = slice_get_within groups i group at in let c = are.count in omega arith))))
+    (same_Some group (group_of_port rec flat (take i groups) i)
+    (sym at ∙ are.each i (let lt = slice_get_within groups i group at in let c = are.count in omega arith))))
   where
     some : (group : List ℕ) (i : ℕ) → group ≡ group_of_port rec flat (take i groups) i → 0 < length group
     some group i is = let long = ap length is in omega arith

@@ -1,15 +1,14 @@
 -- Marks: which cells are in a group, and how far rows were passed over.
-use Rattle.std.proofs.Common.{◌≡◌, ◌≢◌, refl, ap, sym, subst, ◌∙◌, ℕ, zero, suc, ◌+◌, ◌-◌, ◌<◌, ◌≤◌, List, [], ◌∷◌}
-use Rattle.std.proofs.Common.{◌++◌, length, take, drop, set, slice_get, slice_index_or, get_or, Bool, true, false, cond}
+use Rattle.std.proofs.Common.{◌≡◌, refl, ap, sym, subst, ◌∙◌, ℕ, zero, suc, ◌+◌, ◌-◌, ◌<◌, ◌≤◌, List, [], ◌∷◌}
+use Rattle.std.proofs.Common.{◌++◌, length, take, drop, set, slice_get, slice_index_or, Bool, true, false, cond}
 use Rattle.std.proofs.Common.{not, ◌&&◌, ◌||◌, nat_eq, nat_lt, Option, Some, None, option_and_then, option_map, unwrap_or}
-use Rattle.std.proofs.Common.{take-append-drop, append_assoc, append-nil, length-set, Vec, arith}
+use Rattle.std.proofs.Common.{take-append-drop, length-set, Vec, arith}
 use Rattle.std.specs.Global.{Global}
 use Rattle.std.specs.List.{AllByRecursion, filter, list_any, range_with_len}
 use Rattle.std.proofs.lemmas.Bool.{eqb-true, eqb-false, eq-eqb, true≢false, ltb-true, ltb-false}
 use Rattle.std.proofs.lemmas.List.{get_or-set_other, get_or-set_same, length-map}
 use Rattle.std.proofs.lemmas.List.Elements.{filter-append}
 use Rattle.std.proofs.lemmas.Option.{same_Some, slice_get-map, slice_get_read, slice_get_within}
-use Rattle.ix_first.specs.declared.by_key.FirstByKey.{FirstByKey}
 use Rattle.ix_rec.specs.declared.device.DeviceRec.{DeviceRec}
 use Rattle.ix_rec.specs.declared.flow.Flat.{Flat}
 use Rattle.ix_rec.specs.declared.flow.FlatCell.{FlatCell}
@@ -17,7 +16,7 @@ use Rattle.ix_belmap.specs.declared.marks.Marks.{Marks}
 use Rattle.ix_belmap.specs.declared.marks.Passed.{Passed}
 use Rattle.ix_belmap.specs.Groups.{inner_cells, is_on, is_on_net_of, net_of_port, stays_with, type_of, types_go}
 use Rattle.ix_belmap.specs.Marks.{AddsMarks, AreCells, AreMarks, AreRows, IsPassed, IsPassedAt, Knows, free_of, group_by_marks, is_free_for, is_marked, lists_of}
-use Rattle.ix_belmap.proofs.Lists.{all_in_range, all_passing, all_taken, any_more, eq_not, filter_less, filter_more, filter_same, filter_twice, set_here, set_other}
+use Rattle.ix_belmap.proofs.Lists.{all_in_range, all_passing, all_taken, any_more, filter_less, filter_more, filter_same, filter_twice, set_here, set_other}
 
 or_true : (b : Bool) → (b || true) ≡ true
 or_true true = refl
@@ -75,7 +74,7 @@ pub passed_stays : (rec : DeviceRec) (flat : Flat) (more : List ℕ) (before now
     → free_of rec flat now port_type row ≡ []
 passed_stays rec flat more before now port_type row adds =
     filter_less (is_free_for rec flat before port_type) (is_free_for rec flat now port_type) row
-        (λ cell. no_longer_free rec flat more before now port_type cell adds)
+    (λ cell. no_longer_free rec flat more before now port_type cell adds)
 
 passed_at_stays : (rec : DeviceRec) (flat : Flat) (more : List ℕ) (before now : List Bool) (row : List ℕ)
     (at : Option Passed) → AddsMarks more before now → IsPassedAt rec flat before row at
@@ -93,7 +92,7 @@ marks_stay rec flat rows old new more as_many same_passed same_known adds was = 
   nets = ap (λ p. length p.items) same_passed ∙ was.nets;
   passed = λ net row at here there.
       passed_at_stays rec flat more old.taken.items new.taken.items row at adds
-          (was.passed net row at here (sym (ap (λ p. slice_get p.items net) same_passed) ∙ there));
+      (was.passed net row at here (sym (ap (λ p. slice_get p.items net) same_passed) ∙ there));
   known = subst (Knows rec) (sym same_known) was.known;
 }
 
@@ -135,9 +134,9 @@ pub full : (rec : DeviceRec) (flat : Flat) (marks : List Bool) (port_type : ℕ)
     → group ≡ port ∷ take 8 (free_of rec flat marks port_type row)
 full rec flat marks port_type row i port group is long =
     is ∙ ap (λ l. port ∷ l) (sym (ap (take 8) (ap (free_of rec flat marks port_type) (sym (take-append-drop i row))
-        ∙ filter-append (is_free_for rec flat marks port_type) (take i row) (drop i row))
+    ∙ filter-append (is_free_for rec flat marks port_type) (take i row) (drop i row))
     ∙ take_front (free_of rec flat marks port_type (take i row)) (free_of rec flat marks port_type (drop i row)) 8
-        (let l : suc (length (free_of rec flat marks port_type (take i row))) ≡ 9 = sym (ap length is) ∙ long in omega arith)))
+    (let l : suc (length (free_of rec flat marks port_type (take i row))) ≡ 9 = sym (ap length is) ∙ long in omega arith)))
 
 take_short : (xs : List ℕ) (n : ℕ) → length xs ≤ n → take n xs ≡ xs
 take_short [] zero h = refl
@@ -151,7 +150,7 @@ pub all_looked : (rec : DeviceRec) (flat : Flat) (marks : List Bool) (port_type 
 all_looked rec flat marks port_type row i port group is short end =
     let whole = ap (λ l. port ∷ free_of rec flat marks port_type l) (take_short row i end) in
     is ∙ whole ∙ ap (λ l. port ∷ l) (sym (take_short (free_of rec flat marks port_type row) 8
-        (let l : suc (length (free_of rec flat marks port_type row)) ≡ length group = sym (ap length (is ∙ whole)) in omega arith)))
+    (let l : suc (length (free_of rec flat marks port_type row)) ≡ length group = sym (ap length (is ∙ whole)) in omega arith)))
 
 -- where each item that passes one test is among those that pass, and so fails another, as do those
 -- that fail the one, none passes the other
@@ -162,13 +161,13 @@ none_left p q [] taken others = refl
 none_left p q (x ∷ xs) taken others = by (none_left p q xs) (p x) refl taken
   where
     by : (((y : ℕ) → p y ≡ true → list_any (nat_eq y) (filter p xs) ≡ true → q y ≡ false)
-            → ((y : ℕ) → p y ≡ false → q y ≡ false) → filter q xs ≡ [])
+        → ((y : ℕ) → p y ≡ false → q y ≡ false) → filter q xs ≡ [])
         → (b : Bool) → p x ≡ b
         → ((y : ℕ) → p y ≡ true → list_any (nat_eq y) (cond b (x ∷ filter p xs) (filter p xs)) ≡ true → q y ≡ false)
         → filter q (x ∷ xs) ≡ []
     by rest true e h =
         ap (λ b. cond b (x ∷ filter q xs) (filter q xs))
-            (h x e (ap (λ b. b || list_any (nat_eq x) (filter p xs)) (eq-eqb x x refl)))
+        (h x e (ap (λ b. b || list_any (nat_eq x) (filter p xs)) (eq-eqb x x refl)))
         ∙ rest (λ y pass here. h y pass (ap (λ b. nat_eq y x || b) here ∙ or_true (nat_eq y x))) others
     by rest false e h =
         ap (λ b. cond b (x ∷ filter q xs) (filter q xs)) (others x e) ∙ rest h others
@@ -179,16 +178,16 @@ pub taken_now : (rec : DeviceRec) (flat : Flat) (before now : List Bool) (port_t
     → free_of rec flat now port_type row ≡ []
 taken_now rec flat before now port_type row port group is adds =
     none_left (is_free_for rec flat before port_type) (is_free_for rec flat now port_type) row
-        (λ cell free here. all_marked cell here)
-        (λ cell. no_longer_free rec flat group before now port_type cell adds)
+    (λ cell free here. all_marked cell here)
+    (λ cell. no_longer_free rec flat group before now port_type cell adds)
   where
     all_marked : (cell : ℕ) → list_any (nat_eq cell) (free_of rec flat before port_type row) ≡ true
         → is_free_for rec flat now port_type cell ≡ false
     all_marked cell here =
         ap (λ b. unwrap_or (option_map (stays_with rec port_type) (type_of flat cell)) false && not b)
-            (adds cell ∙ ap (λ l. is_marked before cell || list_any (nat_eq cell) l) is
-                ∙ ap (λ b. is_marked before cell || (nat_eq cell port || b)) here
-                ∙ ap (λ b. is_marked before cell || b) (or_true (nat_eq cell port)) ∙ or_true (is_marked before cell))
+        (adds cell ∙ ap (λ l. is_marked before cell || list_any (nat_eq cell) l) is
+        ∙ ap (λ b. is_marked before cell || (nat_eq cell port || b)) here
+        ∙ ap (λ b. is_marked before cell || b) (or_true (nat_eq cell port)) ∙ or_true (is_marked before cell))
         ∙ and_false (unwrap_or (option_map (stays_with rec port_type) (type_of flat cell)) false)
 
 -- The group of a port cell on a net.
@@ -205,9 +204,9 @@ pub group_told : (rec : DeviceRec) (flat : Flat) (marks : List Bool) (port net :
 group_told rec flat marks port net cell row group at on is told =
     told ∙ ap (λ l. port ∷ take 8 (free_of rec flat marks cell.ty l)) is
     ∙ ap (λ l. port ∷ take 8 l)
-        (filter_twice (is_free_for rec flat marks cell.ty) (λ q. is_on flat q net) (inner_cells flat)
-        ∙ filter_same (λ q. is_on flat q net && is_free_for rec flat marks cell.ty q)
-            (λ q. is_on_net_of flat port q && types_go rec flat port q && not (is_marked marks q)) (inner_cells flat) same)
+    (filter_twice (is_free_for rec flat marks cell.ty) (λ q. is_on flat q net) (inner_cells flat)
+    ∙ filter_same (λ q. is_on flat q net && is_free_for rec flat marks cell.ty q)
+    (λ q. is_on_net_of flat port q && types_go rec flat port q && not (is_marked marks q)) (inner_cells flat) same)
   where
     same : (q : ℕ) → (is_on flat q net && is_free_for rec flat marks cell.ty q)
         ≡ (is_on_net_of flat port q && types_go rec flat port q && not (is_marked marks q))
@@ -215,7 +214,7 @@ group_told rec flat marks port net cell row group at on is told =
         sym (ap (λ o. unwrap_or (option_map (is_on flat q) o) false && types_go rec flat port q && not (is_marked marks q)) on
         ∙ ap (λ b. is_on flat q net && b && not (is_marked marks q)) stays
         ∙ and_assoc (is_on flat q net) (unwrap_or (option_map (stays_with rec cell.ty) (type_of flat q)) false)
-            (not (is_marked marks q)))
+        (not (is_marked marks q)))
       where
         stays : types_go rec flat port q ≡ unwrap_or (option_map (stays_with rec cell.ty) (type_of flat q)) false
         stays = ap (λ o. unwrap_or (option_and_then (λ p. option_map (λ c. stays_with rec p c) (type_of flat q))
@@ -241,17 +240,17 @@ marks_next rec flat rows old new group net passed row as_many put knows adds at 
     by n r o true e here there =
         let is_n : net ≡ n = eqb-true net n e in
         let lt : n < length old.passed.items = (let l = slice_get_within (set old.passed.items net (Some passed)) n o there in
-            let s = length-set old.passed.items net (Some passed) in omega arith) in
+        let s = length-set old.passed.items net (Some passed) in omega arith) in
         let same : Some passed ≡ o = same_Some (Some passed) o
-            (sym (set_here old.passed.items net (Some passed) (omega arith))
-            ∙ ap (slice_get (set old.passed.items net (Some passed))) is_n ∙ there) in
+        (sym (set_here old.passed.items net (Some passed) (omega arith))
+        ∙ ap (slice_get (set old.passed.items net (Some passed))) is_n ∙ there) in
         let rows_same : row ≡ r = same_Some row r (sym at ∙ ap (slice_get rows) is_n ∙ here) in
         subst (λ p. IsPassedAt rec flat new.taken.items r p) same
-            (subst (λ l. (passed.count ≤ length l) × IsPassed rec flat new.taken.items passed.port_type l passed.count)
-                rows_same (within, is))
+        (subst (λ l. (passed.count ≤ length l) × IsPassed rec flat new.taken.items passed.port_type l passed.count)
+        rows_same (within, is))
     by n r o false e here there =
         passed_at_stays rec flat group old.taken.items new.taken.items r o adds
-            (was.passed n r o here (sym (set_other old.passed.items net n (Some passed) (eqb-false net n e)) ∙ there))
+        (was.passed n r o here (sym (set_other old.passed.items net n (Some passed) (eqb-false net n e)) ∙ there))
 
 -- a port cell on no net is alone
 pub alone_told : (rec : DeviceRec) (flat : Flat) (marks : List Bool) (port : ℕ) → net_of_port flat port ≡ None
@@ -282,7 +281,7 @@ pub row_cells : (flat : Flat) (row : List ℕ) (test : ℕ → Bool) → row ≡
     → AreCells flat row
 row_cells flat row test is =
     subst (AreCells flat) (sym is)
-        (all_passing (λ cell. cell < length flat.cells) test (inner_cells flat) (by (nat_lt (length flat.cells) flat.ports) refl))
+    (all_passing (λ cell. cell < length flat.cells) test (inner_cells flat) (by (nat_lt (length flat.cells) flat.ports) refl))
   where
     by : (b : Bool) → nat_lt (length flat.cells) flat.ports ≡ b → AreCells flat (inner_cells flat)
     by true e =
@@ -299,9 +298,11 @@ pub group_cells : (rec : DeviceRec) (flat : Flat) (marks : List Bool) (port_type
     → AllByRecursion (λ cell. cell < length marks) group
 group_cells rec flat marks port_type row count port group cells lt many is =
     subst (AllByRecursion (λ cell. cell < length marks)) (sym is)
-        (subst (λ n. AllByRecursion (λ cell. cell < n) (port ∷ free_of rec flat marks port_type (take count row))) (sym many)
-            (lt, all_passing (λ cell. cell < length flat.cells) (is_free_for rec flat marks port_type) (take count row)
-                (all_taken (λ cell. cell < length flat.cells) row count cells)))
+    (subst (λ n. AllByRecursion (λ cell. cell < n) (port ∷ free_of rec flat marks port_type (take count row))) (sym many) (
+      lt,
+      all_passing (λ cell. cell < length flat.cells) (is_free_for rec flat marks port_type) (take count row)
+          (all_taken (λ cell. cell < length flat.cells) row count cells),
+    ))
 
 -- the row of a net, as it is kept
 pub record IsRowOf (flat : Flat) (rows : List (List ℕ)) (net : ℕ) (row : List ℕ) : Type 0 where

@@ -1,7 +1,6 @@
 -- Site types and BELs are found by their names, since a valid device has none twice.
-use Rattle.std.proofs.Common.{◌≡◌, refl, ap, sym, subst, ◌∙◌, ℕ, ◌+◌, Bool, true, false, not, ◌&&◌, nat_eq, List, [], ◌∷◌, ◌++◌, map, take, drop, slice_get, position, Option, Some, None, is_some, option_and_then, ◌||◌, take-append-drop}
+use Rattle.std.proofs.Common.{◌≡◌, refl, ap, sym, ◌∙◌, ℕ, ◌+◌, Bool, true, false, not, nat_eq, List, [], ◌∷◌, ◌++◌, map, take, drop, slice_get, position, Option, Some, None, is_some, option_and_then, ◌||◌, take-append-drop}
 use Rattle.std.specs.List.{list_any, flat_map}
-use Rattle.std.proofs.lemmas.Option.{none-some, same_Some}
 use Rattle.std.proofs.lemmas.Bool.{eq-eqb, true≢false}
 use Rattle.ix_message.specs.Indexes.{Step, begun, asked, first_unfit}
 use Rattle.ix_rec.specs.declared.device.DeviceRec.{DeviceRec}

@@ -1,8 +1,8 @@
 -- The nets of port cells and the rows of nets, as far as a map of pins was walked.
 use Rattle.std.proofs.Common.{◌≡◌, ◌≢◌, refl, ap, sym, subst, ◌∙◌, ℕ, zero, suc, ◌+◌, ◌-◌, ◌<◌, ◌≤◌, List, []}
 use Rattle.std.proofs.Common.{◌∷◌, ◌++◌, length, replicate, slice_get, Bool, true, false, cond, not, ◌&&◌, ◌||◌}
-use Rattle.std.proofs.Common.{T, Vec, map, set, nat_eq, nat_lt, Option, Some, None, option_map, unwrap_or, append-nil, arith}
-use Rattle.std.proofs.lemmas.Bool.{eqb-true, eqb-false, eq-eqb, true≢false, false≢true, ltb-true, ltb-false, le-ltb}
+use Rattle.std.proofs.Common.{T, Vec, set, nat_eq, nat_lt, Option, Some, None, option_map, append-nil, arith}
+use Rattle.std.proofs.lemmas.Bool.{eqb-true, eqb-false, eq-eqb, ltb-true, ltb-false, le-ltb}
 use Rattle.std.proofs.lemmas.List.{append_assoc, length-replicate, map-append}
 use Rattle.std.proofs.lemmas.Option.{slice_get-map}
 use Rattle.std.specs.Global.{Global}
@@ -10,7 +10,7 @@ use Rattle.std.proofs.lemmas.List.Elements.{filter_map-append}
 use Rattle.std.proofs.lemmas.List.Folds.{list_any-append}
 use Rattle.std.specs.FinMap.{entries, entries_sorted}
 use Rattle.std.specs.FinMap.Entries.{is_sorted}
-use Rattle.std.specs.List.{AllByRecursion, cons_option, filter, filter_map, list_any, range_with_len}
+use Rattle.std.specs.List.{AllByRecursion, cons_option, filter, filter_map, list_any}
 use Rattle.ix_num.specs.declared.resource.NetRef.{NetRef}
 use Rattle.ix_num.specs.declared.resource.NetRef.TheVariants.{Gnd, Vcc, Signal}
 use Rattle.ix_first.specs.First.{or_later}
@@ -33,7 +33,7 @@ signals_in pins cell = filter_map (signal_at cell) pins
 -- the same with one pin more
 signals_push : (pins : List Entry) (pin : Entry) (cell : ℕ)
     → signals_in (pins ++ pin ∷ []) cell
-        ≡ signals_in pins cell ++ cons_option (cond (nat_eq pin.0.0 cell) (signal pin.1) None) []
+    ≡ signals_in pins cell ++ cons_option (cond (nat_eq pin.0.0 cell) (signal pin.1) None) []
 signals_push pins pin cell = filter_map-append (signal_at cell) pins (pin ∷ [])
 
 -- the nets of port cells, while the pins from some on are still to come
@@ -68,9 +68,9 @@ nets_signal flat old new rest now pin net known step is put = record {
   told = λ port lt. put port
       ∙ ap (option_map (λ v. or_later v (nat_eq pin.0.0 port) net)) (known.told port lt)
       ∙ ap Some (sym (ap (λ l. slice_get l 0) (signals_push known.done pin port)
-          ∙ first_of (signals_in known.done port) (cons_option (cond (nat_eq pin.0.0 port) (signal pin.1) None) [])
-              (nat_eq pin.0.0 port) net
-              (ap (λ o. cons_option (cond (nat_eq pin.0.0 port) o None) []) (ap signal is))));
+      ∙ first_of (signals_in known.done port) (cons_option (cond (nat_eq pin.0.0 port) (signal pin.1) None) [])
+      (nat_eq pin.0.0 port) net
+      (ap (λ o. cons_option (cond (nat_eq pin.0.0 port) o None) []) (ap signal is))));
 }
 
 abbrev pub IsConstant : NetRef → Type 0
@@ -92,9 +92,9 @@ nets_constant flat old rest now pin known step constant = record {
   all = split (entries flat.pins) known.done rest now pin known.all step;
   told = λ port lt. known.told port lt
       ∙ ap (λ l. Some (slice_get l 0)) (sym (signals_push known.done pin port
-          ∙ ap (λ l. signals_in known.done port ++ l)
-              (nothing_more (nat_eq pin.0.0 port) (signal pin.1) (no_signal pin.1 constant))
-          ∙ append-nil (signals_in known.done port)));
+      ∙ ap (λ l. signals_in known.done port ++ l)
+      (nothing_more (nat_eq pin.0.0 port) (signal pin.1) (no_signal pin.1 constant))
+      ∙ append-nil (signals_in known.done port)));
 }
 
 pub nets_end : (flat : Flat) (nets : ℕ → Option (Option ℕ)) (rest : List Entry) → KnowsNets flat nets rest
@@ -103,7 +103,7 @@ unfolding net_of_port signals_of
 nets_end flat nets rest known is port lt =
     known.told port lt
     ∙ ap (λ l. Some (slice_get (signals_in l port) 0))
-        (sym (known.all ∙ ap (λ l. known.done ++ l) is ∙ append-nil known.done))
+    (sym (known.all ∙ ap (λ l. known.done ++ l) is ∙ append-nil known.done))
 
 -- whether a cell is on a net, as far as pins were walked
 abbrev pub on_in : List Entry → (net cell : ℕ) → Bool
@@ -166,12 +166,12 @@ module _ (flat : Flat) (done : List Entry) (pin : Entry) (rest : List Entry)
   same_row : ((q : ℕ) → flat.ports ≤ q → on_in (done ++ pin ∷ []) net q ≡ on_in done net q) → row ≡ next
   same_row same =
       filter_alike (on_in done net) (on_in (done ++ pin ∷ []) net) flat.ports (length flat.cells - flat.ports)
-          (λ q le lt. sym (same q le))
+      (λ q le lt. sym (same q le))
 
   cell_fits : pin.0.0 < length flat.cells
   cell_fits =
       (between (λ entry. IsCellOf flat entry.0.0 × IsNetOf flat entry.1) done pin rest
-          (subst (AllByRecursion (λ entry. IsCellOf flat entry.0.0 × IsNetOf flat entry.1)) all fits.pins)).0
+      (subst (AllByRecursion (λ entry. IsCellOf flat entry.0.0 × IsNetOf flat entry.1)) all fits.pins)).0
 
   sorted : T (is_sorted pin_order (done ++ pin ∷ rest))
   sorted = subst (λ l. T (is_sorted pin_order l)) all (entries_sorted flat.pins)
@@ -184,18 +184,18 @@ module _ (flat : Flat) (done : List Entry) (pin : Entry) (rest : List Entry)
   grows is le =
       let ports = fits.ports in let cell = cell_fits in
       sym (row_grows (on_in done net) (on_in (done ++ pin ∷ []) net) flat.ports (length flat.cells - flat.ports) pin.0.0
-          le (omega arith) past (λ q. here q (nat_eq pin.0.0 q) refl))
+      le (omega arith) past (λ q. here q (nat_eq pin.0.0 q) refl))
     where
       here : (q : ℕ) (b : Bool) → nat_eq pin.0.0 q ≡ b
           → on_in (done ++ pin ∷ []) net q ≡ (on_in done net q || nat_eq q pin.0.0)
       here q true e =
           on_push done pin net q (Some net) (ap (λ b. cond b (signal pin.1) None) e ∙ ap signal is)
           ∙ ap (λ b. on_in done net q || b)
-              (or_false (nat_eq net net) ∙ eq-eqb net net refl ∙ sym (eq-eqb q pin.0.0 (sym (eqb-true pin.0.0 q e))))
+          (or_false (nat_eq net net) ∙ eq-eqb net net refl ∙ sym (eq-eqb q pin.0.0 (sym (eqb-true pin.0.0 q e))))
       here q false e =
           on_same done pin net q (ap (λ b. cond b (signal pin.1) None) e)
           ∙ sym (ap (λ b. on_in done net q || b) (eq_not q pin.0.0 (λ k. eqb-false pin.0.0 q e (sym k)))
-              ∙ or_false (on_in done net q))
+          ∙ or_false (on_in done net q))
 
   pub row_next : with_pin flat.ports pin.0.0 pin.1 net row ≡ next
   row_next = by pin.1 refl
@@ -210,7 +210,7 @@ module _ (flat : Flat) (done : List Entry) (pin : Entry) (rest : List Entry)
           at q true e =
               on_push done pin net q (Some m) (ap (λ b. cond b (signal pin.1) None) e ∙ ap signal is)
               ∙ ap (λ b. on_in done net q || b)
-                  (or_false (nat_eq net m) ∙ eq_not net m (λ k. eqb-false m net apart (sym k)))
+              (or_false (nat_eq net m) ∙ eq_not net m (λ k. eqb-false m net apart (sym k)))
               ∙ or_false (on_in done net q)
           at q false e = on_same done pin net q (ap (λ b. cond b (signal pin.1) None) e)
 
@@ -249,7 +249,7 @@ rows_end flat rows rest known is = record {
   count = known.count;
   each = λ net lt. known.each net lt
       ∙ ap (λ l. Some (filter (on_in l net) (inner_cells flat)))
-          (sym (known.all ∙ ap (λ l. known.done ++ l) is ∙ append-nil known.done));
+      (sym (known.all ∙ ap (λ l. known.done ++ l) is ∙ append-nil known.done));
 }
 
 -- the net of a pin has a row
@@ -263,9 +263,9 @@ pub row_there : (flat : Flat) (rows : List (List ℕ)) (count : ℕ) (rest now :
     → KnowsRows flat rows rest → rest ≡ pin ∷ now → count ≡ length rows → IsNetBelow count pin.1
 row_there flat rows count rest now pin fits known step is =
     net_below flat count pin.1 (is ∙ known.count)
-        (between (λ entry. IsCellOf flat entry.0.0 × IsNetOf flat entry.1) known.done pin now
-            (subst (AllByRecursion (λ entry. IsCellOf flat entry.0.0 × IsNetOf flat entry.1))
-                (known.all ∙ ap (λ l. known.done ++ l) step) fits.pins)).1
+    (between (λ entry. IsCellOf flat entry.0.0 × IsNetOf flat entry.1) known.done pin now
+    (subst (AllByRecursion (λ entry. IsCellOf flat entry.0.0 × IsNetOf flat entry.1))
+    (known.all ∙ ap (λ l. known.done ++ l) step) fits.pins)).1
 
 pub replicate_more : {A : Type 0} (n : ℕ) (x : A) → replicate (n + 1) x ≡ replicate n x ++ x ∷ []
 replicate_more n x = let e : n + 1 ≡ suc n = omega arith in ap (λ k. replicate k x) e ∙ by n
@@ -286,7 +286,7 @@ pub put_told : (rows : List (Vec ℕ Global)) (ports cell : ℕ) (ref : NetRef) 
     → ref ≡ Signal net → i ≡ net → i < length rows → ports ≤ cell → slice_get rows i ≡ Some old
     → row.items ≡ with_cell old.items cell
     → (n : ℕ) → slice_get (lists_of (set rows i row)) n
-        ≡ option_map (with_pin ports cell ref n) (slice_get (lists_of rows) n)
+    ≡ option_map (with_pin ports cell ref n) (slice_get (lists_of rows) n)
 put_told rows ports cell ref net i old row is place lt inner at put n =
     slice_get-map (λ v. v.items) (set rows i row) n ∙ by (nat_eq i n) refl
     ∙ sym (ap (option_map (with_pin ports cell ref n)) (slice_get-map (λ v. v.items) rows n))
@@ -298,7 +298,7 @@ put_told rows ports cell ref net i old row is place lt inner at put n =
     here e =
         sym (ap (λ r. with_pin ports cell r n old.items) is
         ∙ ap (λ b. cond (b && not (nat_lt cell ports)) (with_cell old.items cell) old.items)
-            (eq-eqb net n (sym place ∙ e))
+        (eq-eqb net n (sym place ∙ e))
         ∙ ap (λ b. cond (not b) (with_cell old.items cell) old.items) passes)
 
     apart : nat_eq i n ≡ false → (o : Option (Vec ℕ Global))
@@ -306,17 +306,17 @@ put_told rows ports cell ref net i old row is place lt inner at put n =
     apart e None = refl
     apart e (Some v) = ap Some (sym (ap (λ r. with_pin ports cell r n v.items) is
         ∙ ap (λ b. cond (b && not (nat_lt cell ports)) (with_cell v.items cell) v.items)
-            (ap (λ k. nat_eq k n) (sym place) ∙ e)))
+        (ap (λ k. nat_eq k n) (sym place) ∙ e)))
 
     by : (b : Bool) → nat_eq i n ≡ b
         → option_map (λ v. v.items) (slice_get (set rows i row) n)
-            ≡ option_map (with_pin ports cell ref n) (option_map (λ v. v.items) (slice_get rows n))
+        ≡ option_map (with_pin ports cell ref n) (option_map (λ v. v.items) (slice_get rows n))
     by true e = let is_n : i ≡ n = eqb-true i n e in
         ap (λ k. option_map (λ v. v.items) (slice_get (set rows i row) k)) (sym is_n)
         ∙ ap (option_map (λ v. v.items)) (set_here rows i row lt)
         ∙ ap Some (put ∙ here is_n)
         ∙ ap (λ o. option_map (with_pin ports cell ref n) (option_map (λ v. v.items) o))
-            (sym at ∙ ap (slice_get rows) is_n)
+        (sym at ∙ ap (slice_get rows) is_n)
     by false e =
         ap (option_map (λ v. v.items)) (set_other rows i n row (eqb-false i n e))
         ∙ apart e (slice_get rows n)

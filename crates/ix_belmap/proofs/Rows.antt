@@ -1,10 +1,10 @@
 -- Rows of cells: the numbers of a range that pass a test, one more at a time.
-use Rattle.std.proofs.Common.{◌≡◌, ◌≢◌, refl, ap, sym, subst, ◌∙◌, ℕ, zero, suc, ◌+◌, ◌-◌, ◌<◌, ◌≤◌, List, [], ◌∷◌, ◌++◌, length, slice_get, Bool, true, false, cond, not, ◌&&◌, ◌||◌, nat_eq, Option, Some, None, option_map, unwrap_or, append_assoc, append-nil, arith}
-use Rattle.std.proofs.lemmas.Bool.{eqb-true, eqb-false, eq-eqb, true≢false, false≢true}
+use Rattle.std.proofs.Common.{◌≡◌, ◌≢◌, refl, ap, sym, subst, ◌∙◌, ℕ, zero, suc, ◌+◌, ◌-◌, ◌<◌, ◌≤◌, List, [], ◌∷◌, ◌++◌, length, slice_get, Bool, true, false, cond, ◌||◌, nat_eq, Option, Some, None, option_map, unwrap_or, append-nil, arith}
+use Rattle.std.proofs.lemmas.Bool.{eqb-true, eq-eqb}
 use Rattle.std.proofs.lemmas.Option.{none-some, same_Some, slice_get_read}
 use Rattle.std.proofs.lemmas.List.{length_push, get_or_push}
 use Rattle.std.proofs.lemmas.List.Elements.{filter-append}
-use Rattle.std.specs.List.{filter, list_any, range_with_len}
+use Rattle.std.specs.List.{filter, range_with_len}
 
 -- a range in three parts
 split_range : (a k n m : ℕ) → m ≡ k + suc n → range_with_len a m ≡ range_with_len a k ++ (a + k) ∷ range_with_len (a + k + 1) n

@@ -1,5 +1,5 @@
 -- Sums over the sites of a device, by site type.
-use Rattle.std.proofs.Common.{◌≡◌, ◌≢◌, refl, ap, sym, subst, ◌∙◌, ℕ, zero, suc, ◌+◌, ◌*◌, ◌<◌, ◌≤◌, [], ◌∷◌, ◌++◌, Bool, true, false, cond, nat_eq, nat_lt, Option, Some, None, option_map, unwrap_or, arith}
+use Rattle.std.proofs.Common.{◌≡◌, ◌≢◌, refl, ap, sym, ◌∙◌, ℕ, zero, suc, ◌+◌, ◌*◌, ◌<◌, ◌≤◌, [], ◌∷◌, ◌++◌, Bool, true, false, cond, nat_eq, nat_lt, Option, Some, None, option_map, unwrap_or, arith}
 use Rattle.std.proofs.lemmas.Bool.{eqb-true, eqb-false, ltb-true, ltb-false, lt-ltb, le-ltb}
 use Rattle.std.specs.List.{count_by, range_with_len, sum_by}
 use Rattle.std.proofs.lemmas.List.Sums.{sum_by-append, sum_by-cons}
@@ -13,7 +13,7 @@ is_sum f zero = refl
 is_sum f (suc n) =
     let below = is_sum f n in
     let cut : sum_by f (range_with_len 0 (suc n)) ≡ sum_by f (range_with_len 0 n ++ n ∷ [])
-        = ap (sum_by f) (range_next 0 n n (omega arith)) in
+    = ap (sum_by f) (range_next 0 n n (omega arith)) in
     let joined = sum_by-append f (range_with_len 0 n) (n ∷ []) in
     let one = sum_by-cons f n [] in
     let none : sum_by f [] ≡ 0 = refl in
@@ -25,7 +25,7 @@ is_count test zero = refl
 is_count test (suc n) =
     let below = is_count test n in
     let cut : count_by test (range_with_len 0 (suc n)) ≡ count_by test (range_with_len 0 n ++ n ∷ [])
-        = ap (count_by test) (range_next 0 n n (omega arith)) in
+    = ap (count_by test) (range_next 0 n n (omega arith)) in
     let joined = sum_by-append (λ k. cond (test k) 1 0) (range_with_len 0 n) (n ∷ []) in
     let one = sum_by-cons (λ k. cond (test k) 1 0) n [] in
     let none : count_by test [] ≡ 0 = refl in

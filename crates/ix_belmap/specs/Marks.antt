@@ -95,9 +95,9 @@ pub record AreMarks (rec : DeviceRec) (flat : Flat) (rows : List (List ℕ)) (ma
 abbrev pub group_by_marks : DeviceRec → Flat → List Bool → (port : ℕ) → List ℕ
 group_by_marks rec flat marks port =
     port ∷ take 8 (filter
-        (λ cell. is_on_net_of flat port cell && types_go rec flat port cell
-            && not (is_marked marks cell))
-        (inner_cells flat))
+    (λ cell. is_on_net_of flat port cell && types_go rec flat port cell
+    && not (is_marked marks cell))
+    (inner_cells flat))
 
 -- these cells are marked besides
 abbrev pub AddsMarks : List ℕ → (before now : List Bool) → Type 0

@@ -1,5 +1,5 @@
 -- Package pins, and the ports that are fixed to their sites.
-use Rattle.std.specs.Prelude.{◌≡◌, ℕ, ◌<◌, ◌+◌, ◌-◌, min, max, List, [], ◌∷◌, ◌++◌, length, map}
+use Rattle.std.specs.Prelude.{◌≡◌, ℕ, ◌<◌, ◌+◌, ◌-◌, min, max, List, [], ◌++◌, length, map}
 use Rattle.std.specs.Prelude.{take, slice_get, codes, Bool, true, false, nat_eq, Option, Some, None}
 use Rattle.std.specs.Prelude.{option_map, option_and_then, unwrap_or, IfSome}
 use Rattle.std.specs.Fmt.{decimal}
@@ -10,19 +10,16 @@ use Rattle.ix_strings.specs.Names.{number_of}
 use Rattle.ix_rec.specs.declared.device.DeviceRec.{DeviceRec}
 use Rattle.ix_rec.specs.declared.device.Direction.{Direction}
 use Rattle.ix_rec.specs.declared.device.Direction.TheVariants.{Input, Output, Inout}
-use Rattle.ix_rec.specs.declared.device.Package.{Package}
 use Rattle.ix_rec.specs.declared.device.PackagePin.{PackagePin}
 use Rattle.ix_rec.specs.declared.device.PackagePinSite.{PackagePinSite}
 use Rattle.ix_rec.specs.declared.device.PackagePinSite.TheVariants.{NoSite, Site}
 use Rattle.ix_rec.specs.declared.flow.Flat.{Flat}
 use Rattle.ix_rec.specs.declared.flow.FlatCell.{FlatCell}
-use Rattle.ix_rec.specs.declared.netlist.CellDeclaration.{CellDeclaration}
 use Rattle.ix_rec.specs.declared.netlist.Entry.{Entry}
 use Rattle.ix_rec.specs.declared.netlist.NetlistRec.{NetlistRec}
 use Rattle.ix_rec.specs.declared.netlist.Port.{Port}
 use Rattle.ix_rec.specs.declared.netlist.PortKind.{PortKind}
 use Rattle.ix_rec.specs.declared.netlist.PortKind.TheVariants.{Bit, Bus}
-use Rattle.ix_rec.specs.declared.netlist.PropertyMap.{PropertyMap}
 use Rattle.ix_rec.specs.declared.netlist.PropertyValue.{PropertyValue}
 use Rattle.ix_rec.specs.declared.netlist.PropertyValue.TheVariants.{Text, Int, Bool as Truth}
 use Rattle.ix_rec.specs.declared.place.Rule.{Rule}
@@ -45,7 +42,7 @@ pub record TopFits (design : NetlistRec) : Type 0 where
 unfoldable pub top_ports : NetlistRec → List Port
 top_ports design = unwrap_or
     (option_map (λ top. filter_map (slice_get design.port_list) top.ports)
-        (slice_get design.cell_decls design.top_inst.cell))
+    (slice_get design.cell_decls design.top_inst.cell))
     []
 
 abbrev pub bits_of_kind : PortKind → (first last : ℕ) → ℕ

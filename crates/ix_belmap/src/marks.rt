@@ -136,7 +136,7 @@ impl Marks {
         ensures { (rec : RecSeen) (flat : FlatSeen) (rows : List (List ℕ)) (row : List ℕ)
             → AreMarks rec flat rows self.now → slice_get rows net ≡ Some row
             → (result ≤ length row)
-                × IsPassed rec flat self.now.taken.items port_type row result }
+            × IsPassed rec flat self.now.taken.items port_type row result }
     {
         match self.passed[net.get() as usize] {
             Some(passed) => {
@@ -193,11 +193,7 @@ impl Marks {
     }
 
     /// The group of a port cell on no signal net, which is alone.
-    pub(crate) fn group_alone(
-        &mut self,
-        alloc: Global,
-        port: CellId,
-    ) -> Result<Vec<CellId>, Memory>
+    pub(crate) fn group_alone(&mut self, alloc: Global, port: CellId) -> Result<Vec<CellId>, Memory>
         requires { port < length self.now.taken.items }
         ensures group { IfOk result (λ group. group.items ≡ port ∷ []) }
         ensures marks { (rec : RecSeen) (flat : FlatSeen) (rows : List (List ℕ))

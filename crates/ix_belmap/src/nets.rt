@@ -51,12 +51,7 @@ fn put(row: &mut Vec<CellId>, cell: CellId) -> Result<(), Memory>
 }
 
 // Puts a cell that isn't a port cell behind the others of the row of a net that it is on.
-fn put_pin(
-    rows: &mut Vec<Vec<CellId>>,
-    ports: u32,
-    cell: CellId,
-    net: NetRef,
-) -> Result<(), Memory>
+fn put_pin(rows: &mut Vec<Vec<CellId>>, ports: u32, cell: CellId, net: NetRef) -> Result<(), Memory>
     requires { IsNetBelow (length rows.now.items) net }
     ensures count { OnOk result (length rows.new.items ≡ length rows.old.items) }
     ensures rows { OnOk result ((n : ℕ) → slice_get (lists_of rows.new.items) n

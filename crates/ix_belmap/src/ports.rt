@@ -42,7 +42,7 @@ pub enum Fixing {
 fn cells_of(port: &Port) -> u64
     ensures count { result
         ≡ cells_of_port port.now.dir
-            (bits_of_kind port.now.kind port.now.bus_start port.now.bus_end) }
+        (bits_of_kind port.now.kind port.now.bus_start port.now.bus_end) }
     ensures few { result ≤ 2 ^ 32 }
 {
     match port.dir {
@@ -96,8 +96,8 @@ fn fixing_of_bit(
     ensures { (properties : List EntrySeen)
         → ((key : ℕ) → value_at values.now (name_key key) ≡ value_of_key properties key)
         → IfOk result (λ fixing. fixing
-            ≡ fixing_by device.now pins.now
-                (property_seen names.now properties (pin_key kind index))) }
+        ≡ fixing_by device.now pins.now
+        (property_seen names.now properties (pin_key kind index))) }
 {
     let key = key_of(alloc, kind, index)?;
     Ok(match property(values, names, key.as_str()) {
@@ -120,12 +120,13 @@ fn put_port(
         ≡ position (λ p. nat_eq p.package_pin name) pins.now }
     ensures { OnOk result (fixings.new ≡ fixings.old
         ++ map (λ index. fixing_of names.now device.now pins.now (port.now, index))
-            (bits_of_port port.now)) }
+        (bits_of_port port.now)) }
 {
     let values = values_by_key(alloc, &port.prop_map.entries)?;
     for index in 0..cells_of(port) {
-        let fixing =
-            fixing_of_bit(alloc, device, names, pins, places, &values, port.kind, index)?;
+        let fixing = fixing_of_bit(
+            alloc, device, names, pins, places, &values, port.kind, index,
+        )?;
         fixings.push(fixing)?;
     }
     Ok(())

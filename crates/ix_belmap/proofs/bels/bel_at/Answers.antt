@@ -1,4 +1,4 @@
-use Rattle.std.proofs.Common.{◌≡◌, ◌<◌, ◌^◌, ap, sym, subst, ◌∙◌, slice_get, Some, length, IfSome, arith}
+use Rattle.std.proofs.Common.{◌≡◌, ◌<◌, ap, sym, subst, ◌∙◌, slice_get, Some, length, IfSome, arith}
 use Rattle.std.proofs.lemmas.Option.{none-some, same_Some}
 use Rattle.ix_belmap.proofs.Named.{bel_found}
 use Rattle.ix_belmap.proofs.bels.bel_at.Goals as goal

@@ -1,6 +1,5 @@
 use Rattle.std.proofs.Common.{◌≡◌, ap, sym, subst, ◌∙◌, ℕ, Bool, IfSome, length, slice_get, Some, arith}
 use Rattle.ix_belmap.specs.Counts.{bels_in_type as bels_in_type_seen}
-use Rattle.ix_belmap.specs.Sites.{count_below}
 use Rattle.ix_belmap.proofs.Counting.{counted_yes, counted_no}
 use Rattle.ix_belmap.proofs.BelSums.{takes_in, count_start, all_counted}
 use Rattle.ix_belmap.proofs.bels.bels_in_type.Goals as goal

@@ -1,7 +1,6 @@
-use Rattle.std.proofs.Common.{◌≡◌, ◌+◌, ◌*◌, ◌<◌, ◌≤◌, ◌^◌, ap, sym, ◌∙◌, length, arith}
-use Rattle.ix_device.specs.Lookups.{sites_of}
+use Rattle.std.proofs.Common.{◌≡◌, ◌+◌, ap, sym, ◌∙◌, length, arith}
 use Rattle.ix_belmap.specs.Sites.{sites_of_type}
-use Rattle.ix_belmap.proofs.BelSums.{bels_of, bels_so_far, bels_start, bels_end, bels_most, sites_most, told_bels, next_sum, skip_sum, small_next, product_fits}
+use Rattle.ix_belmap.proofs.BelSums.{bels_so_far, bels_start, bels_end, bels_most, sites_most, told_bels, next_sum, skip_sum, small_next, product_fits}
 use Rattle.ix_belmap.proofs.bels.bels_of_device.Goals as goal
 use Rattle.ix_belmap.proofs.bels.bels_of_device.Goals.{then-bels-gt0, else-bels-gt0}
 

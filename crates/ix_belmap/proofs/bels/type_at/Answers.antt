@@ -1,4 +1,4 @@
-use Rattle.std.proofs.Common.{◌≡◌, ap, sym, subst, ◌∙◌, slice_get, Some}
+use Rattle.std.proofs.Common.{◌≡◌, sym, subst, ◌∙◌, slice_get, Some}
 use Rattle.std.proofs.lemmas.Option.{none-some, same_Some}
 use Rattle.ix_belmap.proofs.Named.{type_found}
 use Rattle.ix_belmap.proofs.bels.type_at.Goals as goal

@@ -7,4 +7,4 @@ use Rattle.ix_belmap.proofs.grouping.groups.Given as goal
 abbrev pub invariant-loop-cell : goal.invariant-loop-cell
 invariant-loop-cell l =
     l.groups ≡ l.initial.groups ++ map (λ q. q ∷ []) (filter (λ q. not (is_marked l.taken.items q))
-        (range_with_len l.flat.ports (l.cell - l.flat.ports)))
+    (range_with_len l.flat.ports (l.cell - l.flat.ports)))

@@ -1,4 +1,4 @@
-use Rattle.std.proofs.Common.{◌≡◌, ◌<◌, ◌≤◌, refl, ap, sym, subst, ◌∙◌, length, length-set, slice_get, slice_index_or, Some, true, arith}
+use Rattle.std.proofs.Common.{◌<◌, refl, ap, sym, subst, ◌∙◌, length, length-set, Some, true, arith}
 use Rattle.std.proofs.lemmas.Option.{slice_get_read}
 use Rattle.ix_belmap.specs.Marks.{AddsMarks}
 use Rattle.ix_belmap.proofs.Lists.{among, take_all}
@@ -13,7 +13,7 @@ index_mut-requires c =
     let cells = c.args.cells.now.items in
     let at = slice_get_read cells (length cells) c.loop-i.i c.index.result.now refl (omega arith) c.index.ensures in
     let lt : c.index.result.now < length c.args.taken.now.items
-        = among (λ cell. cell < length c.args.taken.now.items) cells c.loop-i.i c.index.result.now c.requires at in
+    = among (λ cell. cell < length c.args.taken.now.items) cells c.loop-i.i c.index.result.now c.requires at in
     let same = c.loop-i.invariant.0 in let is = c.get.ensures in omega arith
 
 pub loop-i-preserved : goal.loop-i-preserved
@@ -21,11 +21,12 @@ loop-i-preserved c =
     let cells = c.args.cells.now.items in
     let at = slice_get_read cells (length cells) c.loop-i.i c.index.result.now refl (omega arith) c.index.ensures in
     let lt : c.index.result.now < length c.args.taken.now.items
-        = among (λ cell. cell < length c.args.taken.now.items) cells c.loop-i.i c.index.result.now c.requires at in
-    let same = c.loop-i.invariant.0 in let is = c.get.ensures in
-    (length-set c.loop-i.taken.items c.get.result true ∙ same,
-        marks_more cells c.args.taken.now.items c.loop-i.taken.items c.loop-i.i c.get.result
-            (at ∙ ap Some (sym is)) c.loop-i.invariant.1 (omega arith))
+    = among (λ cell. cell < length c.args.taken.now.items) cells c.loop-i.i c.index.result.now c.requires at in
+    let same = c.loop-i.invariant.0 in let is = c.get.ensures in (
+      length-set c.loop-i.taken.items c.get.result true ∙ same,
+      marks_more cells c.args.taken.now.items c.loop-i.taken.items c.loop-i.i c.get.result
+          (at ∙ ap Some (sym is)) c.loop-i.invariant.1 (omega arith),
+    )
 
 pub returns-clause-count : goal.returns-clause-count
 returns-clause-count c = c.loop-i.invariant.0
@@ -33,4 +34,4 @@ returns-clause-count c = c.loop-i.invariant.0
 pub returns-clause-marks : goal.returns-clause-marks
 returns-clause-marks c =
     subst (λ l. AddsMarks l c.args.taken.now.items c.loop-i.taken.items)
-        (take_all c.args.cells.now.items c.loop-i.i (omega arith)) c.loop-i.invariant.1
+    (take_all c.args.cells.now.items c.loop-i.i (omega arith)) c.loop-i.invariant.1

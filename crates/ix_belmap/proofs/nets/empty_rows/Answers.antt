@@ -1,4 +1,4 @@
-use Rattle.std.proofs.Common.{◌≡◌, [], ap, ◌∙◌, replicate, arith}
+use Rattle.std.proofs.Common.{[], ap, ◌∙◌, replicate, arith}
 use Rattle.ix_belmap.specs.Marks.{lists_of}
 use Rattle.ix_belmap.proofs.Pinned.{empty_more}
 use Rattle.ix_belmap.proofs.nets.empty_rows.Goals as goal

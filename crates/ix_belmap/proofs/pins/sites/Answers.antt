@@ -1,7 +1,7 @@
-use Rattle.std.proofs.Common.{◌≡◌, ap, sym, subst, ◌∙◌, ◌≢◌, Some, ℕ, ◌+◌, length, arith}
+use Rattle.std.proofs.Common.{◌≡◌, ap, sym, ◌∙◌, Some, length, arith}
 use Rattle.std.specs.FinMap.{get, get-empty}
 use Rattle.std.specs.Ordering.{nat_cmp}
-use Rattle.ix_belmap.proofs.Failures.{site_more, site_none, sites_end, sites_until}
+use Rattle.ix_belmap.proofs.Failures.{site_more, site_none, sites_end}
 use Rattle.ix_belmap.proofs.pins.sites.Goals as goal
 use Rattle.ix_belmap.proofs.pins.sites.Goals.{in-At+in_ok-insert, in_default}
 
@@ -12,15 +12,15 @@ pub loop-cell-preserved : goal.loop-cell-preserved
 loop-cell-preserved c = elim c.match-at.branch [
   | in-At+in_ok-insert w ↦
       site_more c.args.all.now (get c.loop-cell.fixed) (get c.match-at.fixed) c.loop-cell.cell w.in-At.pin w.in-At.site
-          (c.at.ensures ∙ ap Some w.in-At.is) c.loop-cell.invariant
-          (ap (get c.match-at.fixed) (sym w.new.ensures) ∙ ap (λ m. get m w.new.result) w.fixed-is
-              ∙ w.in_ok-insert.ensures.value)
-          (λ q differ. ap (λ m. get m q) w.fixed-is
-              ∙ w.in_ok-insert.ensures.others q (λ e. differ (e ∙ w.new.ensures)))
+      (c.at.ensures ∙ ap Some w.in-At.is) c.loop-cell.invariant
+      (ap (get c.match-at.fixed) (sym w.new.ensures) ∙ ap (λ m. get m w.new.result) w.fixed-is
+      ∙ w.in_ok-insert.ensures.value)
+      (λ q differ. ap (λ m. get m q) w.fixed-is
+      ∙ w.in_ok-insert.ensures.others q (λ e. differ (e ∙ w.new.ensures)))
   | in_default w ↦
       λ q. ap (λ m. get m q) w.fixed-is
-          ∙ site_none c.args.all.now (get c.loop-cell.fixed) c.loop-cell.cell c.at.result.now c.at.ensures
-              w.in_default.not-At c.loop-cell.invariant q
+      ∙ site_none c.args.all.now (get c.loop-cell.fixed) c.loop-cell.cell c.at.result.now c.at.ensures
+      w.in_default.not-At c.loop-cell.invariant q
 ]
 
 pub returns : goal.returns

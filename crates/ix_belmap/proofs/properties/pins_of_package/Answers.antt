@@ -1,4 +1,4 @@
-use Rattle.std.proofs.Common.{◌≡◌, ap, sym, ◌∙◌, option_map, unwrap_or, nat_eq, [], arith}
+use Rattle.std.proofs.Common.{ap, sym, ◌∙◌, option_map, unwrap_or, nat_eq, [], arith}
 use Rattle.std.specs.List.{find}
 use Rattle.ix_belmap.proofs.Values.{find_next, find_here, take_end}
 use Rattle.ix_belmap.proofs.properties.pins_of_package.Goals as goal

@@ -1,4 +1,4 @@
-use Rattle.std.proofs.Common.{◌≡◌, ap, refl, sym, ◌∙◌, nat_eq, length, slice_get, Some, arith}
+use Rattle.std.proofs.Common.{ap, refl, sym, ◌∙◌, nat_eq, length, arith}
 use Rattle.std.specs.List.{position}
 use Rattle.std.proofs.lemmas.Option.{slice_get_read}
 use Rattle.ix_keys.specs.Keys.{name_key, key_eq}

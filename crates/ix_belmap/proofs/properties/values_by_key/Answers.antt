@@ -1,4 +1,4 @@
-use Rattle.std.proofs.Common.{◌≡◌, ap, sym, ◌∙◌, nat_eq, arith}
+use Rattle.std.proofs.Common.{ap, sym, ◌∙◌, arith}
 use Rattle.ix_keys.specs.Keys.{name_key, key_eq}
 use Rattle.ix_first.specs.First.{value_at, or_later}
 use Rattle.ix_belmap.specs.Pins.{value_of_key}

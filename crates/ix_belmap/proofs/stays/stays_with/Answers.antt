@@ -1,4 +1,4 @@
-use Rattle.std.proofs.Common.{◌≡◌, ◌<◌, refl, ap, sym, ◌∙◌, length, arith}
+use Rattle.std.proofs.Common.{◌≡◌, ◌<◌, refl, ap, sym, length, arith}
 use Rattle.ix_belmap.proofs.Staying.{next_passes, fails, all_pass, no_home, home_too, home_alone}
 use Rattle.ix_belmap.proofs.stays.stays_with.Goals as goal
 use Rattle.ix_belmap.proofs.stays.stays_with.Goals.{then-is_home+else-not-is_home, else-is_home}

@@ -73,6 +73,11 @@ class Design:
         elif word == "pin":
             net = rest[2] if rest[2] in ("gnd", "vcc") else int(rest[2])
             self.pins.append((int(rest[0]), rest[1], net))
+        elif word in ("outputs", "members"):
+            kind = "$PORT_OUT" if word == "outputs" else rest[0]
+            for _ in range(int(rest[-2])):
+                self.pins.append((len(self.cells), "P", int(rest[-1])))
+                self.cells.append(Cell("", kind))
 
     def is_one(self):
         cells, nets = len(self.cells), len(self.nets)
@@ -186,6 +191,8 @@ def answer(device, line):
         return fields[0] + ": no design"
     if question == "groups":
         return fields[0] + ":" + groups(device, design, {})
+    if question == "number of groups":
+        return f"{fields[0]}: {groups(device, design, {}).count('[')}"
     sites = fixed(device, design)
     if isinstance(sites, str):
         return fields[0] + ":" + sites

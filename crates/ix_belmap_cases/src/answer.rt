@@ -3,7 +3,7 @@
 use crate::checks::{has_bits, is_design, top_fits};
 use crate::reading::{Design, netlist, put};
 use crate::telling::{put_fixed, put_groups, put_short};
-use anyhow::Result as Read;
+use anyhow::{Result as Read, bail};
 use ix_belmap::{PinFault, count_bels, first_short, fixed_pins, groups};
 use ix_cases::{bytes_of, field};
 use ix_device::Device;
@@ -17,6 +17,9 @@ use std::alloc::Global;
 /// The device of a file.
 pub(crate) fn device_of(alloc: Global, text: &str, names: &mut Names) -> Read<Device> {
     let bytes = bytes_of(alloc, text)?;
+    if bytes.len() > 1 << 20 || names.len() > 1 << 20 {
+        bail!("the device is too large");
+    }
     let frame = Frame::open(&bytes)?;
     let rec = read_device(alloc, &frame, names)?;
     Ok(Device::check(alloc, rec, names)?)
@@ -63,12 +66,19 @@ fn grouped(
     device: &Device,
     names: &Names,
     flat: &Flat,
+    whole: bool,
 ) -> Result<(), Memory> {
     if !is_design(flat, names.len()) {
         text.push_str(" no design")?;
         return Ok(());
     }
-    put_groups(text, names, flat, &groups(alloc, device, flat)?)
+    let groups = groups(alloc, device, flat)?;
+    if whole {
+        return put_groups(text, names, flat, &groups);
+    }
+    let count = groups.len();
+    write!(text, " {count}")?;
+    Ok(())
 }
 
 fn short(
@@ -118,7 +128,8 @@ fn told(
     match question {
         "fixed" => fixed(alloc, text, device, names, &rec, flat, false),
         "fixed groups" => fixed(alloc, text, device, names, &rec, flat, true),
-        "groups" => grouped(alloc, text, device, names, &flat),
+        "groups" => grouped(alloc, text, device, names, &flat, true),
+        "number of groups" => grouped(alloc, text, device, names, &flat, false),
         "short" => short(alloc, text, device, names, &flat),
         _ => Ok(()),
     }

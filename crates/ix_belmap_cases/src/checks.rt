@@ -78,7 +78,13 @@ pub(crate) fn is_design(flat: &Flat, names: u32) -> bool
     if flat.tables.len() > 0 || flat.fixed.len() > 0 {
         return false;
     }
-    cells_named(&flat.cells, names) && nets_fit(&flat.nets, names) && pins_fit(flat, names)
+    if !cells_named(&flat.cells, names) {
+        return false;
+    }
+    if !nets_fit(&flat.nets, names) {
+        return false;
+    }
+    pins_fit(flat, names)
 }
 
 /// Whether the top of a netlist and its ports are there.
@@ -102,7 +108,7 @@ pub(crate) fn top_fits(design: &NetlistRec) -> bool
 fn cells_of(port: &Port) -> u64
     ensures { result
         ≡ cells_of_port port.now.dir
-            (bits_of_kind port.now.kind port.now.bus_start port.now.bus_end) }
+        (bits_of_kind port.now.kind port.now.bus_start port.now.bus_end) }
 {
     match port.dir {
         Direction::Inout => 0,

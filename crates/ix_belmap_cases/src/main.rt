@@ -6,6 +6,7 @@
 //!
 //! - `fixed`: the sites of fixed ports, or the rule that is broken and the port cell
 //! - `groups`, and `fixed groups`, which fixes the ports first: a list of cells for each group
+//! - `number of groups`: how many there are
 //! - `short`: the first cell type with too few BELs
 //! - `count TYPE`: the number of BELs that admit a cell type
 //! - `none`: nothing, so that the time of the others can be told

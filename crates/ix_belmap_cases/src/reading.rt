@@ -124,6 +124,13 @@ fn net_of(word: &str) -> NetRef {
     }
 }
 
+fn number_of(place: usize) -> Result<u32, Memory> {
+    if place > u32::MAX as usize {
+        return Err(Memory);
+    }
+    Ok(place as u32)
+}
+
 // Puts so many cells of a type, each with a pin on a net.
 fn put_many(
     flat: &mut Flat,
@@ -135,9 +142,9 @@ fn put_many(
 ) -> Result<(), Memory> {
     let pin = add(names, pin)?;
     for _ in 0..count {
-        let place = flat.cells.len();
+        let place = CellId::new(number_of(flat.cells.len())?);
         flat.cells.push(cell(names, "", ty)?)?;
-        flat.pins.insert(CellId::new(place as u32), pin, net_of(net))?;
+        flat.pins.insert(place, pin, net_of(net))?;
     }
     Ok(())
 }
@@ -175,11 +182,25 @@ pub(crate) fn put(
         }
         "members" => {
             let count = number(word(item, 2));
-            put_many(&mut design.flat, names, word(item, 1), count, "I", word(item, 3))
+            put_many(
+                &mut design.flat,
+                names,
+                word(item, 1),
+                count,
+                "I",
+                word(item, 3),
+            )
         }
         "outputs" => {
             let count = number(word(item, 1));
-            put_many(&mut design.flat, names, "$PORT_OUT", count, "P", word(item, 2))
+            put_many(
+                &mut design.flat,
+                names,
+                "$PORT_OUT",
+                count,
+                "P",
+                word(item, 2),
+            )
         }
         _ => Ok(()),
     }
@@ -194,7 +215,7 @@ pub(crate) fn netlist(
     let name = NameId::new(0);
     let mut places = Items::new(alloc);
     for i in 0..ports.len() {
-        places.push(i as u32)?;
+        places.push(number_of(i)?)?;
     }
     let mut cell_decls = Items::new(alloc);
     cell_decls.push(CellDeclaration {

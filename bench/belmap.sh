@@ -22,6 +22,7 @@ kinds = [
     ("groups, all may join", "number of groups", "OBUF"),
     ("groups, none may join", "number of groups", "FD"),
     ("fixed ports", "fixed", "FD"),
+    ("first short", "short", "OBUF"),
 ]
 
 def took(question, size, kind):

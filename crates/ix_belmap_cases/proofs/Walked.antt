@@ -1,10 +1,10 @@
 -- Lists of a design, walked item by item.
-use Rattle.std.proofs.Common.{◌≡◌, ◌≢◌, refl, ap, sym, subst, ◌∙◌, ℕ, zero, suc, ◌+◌, ◌<◌, ◌≤◌, List, []}
-use Rattle.std.proofs.Common.{◌∷◌, ◌++◌, map, take, length, slice_get, Option, Some, None, IfSome, Bool, true, false}
+use Rattle.std.proofs.Common.{◌≡◌, refl, ap, sym, subst, ◌∙◌, ℕ, zero, suc, ◌+◌, ◌<◌, ◌≤◌, List, []}
+use Rattle.std.proofs.Common.{◌∷◌, ◌++◌, map, take, length, slice_get, Option, Some, None, IfSome}
 use Rattle.std.proofs.Common.{option_map, unwrap_or, append-nil, arith}
 use Rattle.std.specs.FinMap.{FinMap, entries, get, get-entries, len, len-entries}
 use Rattle.std.specs.FinMap.Entries.{find}
-use Rattle.std.specs.List.{AllByRecursion, cons_option, filter_map, flat_map, range_with_len}
+use Rattle.std.specs.List.{AllByRecursion, cons_option, filter_map, flat_map}
 use Rattle.std.specs.Ordering.{nat_cmp}
 use Rattle.std.proofs.lemmas.Grind.{flat_map-append}
 use Rattle.std.proofs.lemmas.List.{append_assoc, length-append, length-map}

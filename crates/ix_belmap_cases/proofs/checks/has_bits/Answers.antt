@@ -1,6 +1,5 @@
-use Rattle.std.proofs.Common.{◌≡◌, ◌<◌, ◌≤◌, ◌+◌, refl, ap, sym, ◌∙◌, length, nat_eq, arith}
+use Rattle.std.proofs.Common.{◌≡◌, ◌+◌, ap, length, arith}
 use Rattle.std.proofs.lemmas.Bool.{eqb-true}
-use Rattle.ix_belmap.specs.Pins.{port_bits}
 use Rattle.ix_belmap_cases.proofs.Walked.{bits_end, bits_next, bits_of, cells_in, first_ports}
 use Rattle.ix_belmap_cases.proofs.checks.has_bits.Goals as goal
 

@@ -1,5 +1,4 @@
-use Rattle.std.proofs.Common.{◌≡◌, ◌+◌, length, take}
-use Rattle.std.specs.List.{filter_map}
+use Rattle.std.proofs.Common.{◌≡◌, ◌+◌, length}
 use Rattle.ix_belmap_cases.proofs.Walked.{bits_of, first_ports}
 use Rattle.ix_belmap_cases.proofs.checks.has_bits.Given as goal
 

@@ -1,4 +1,4 @@
-use Rattle.std.proofs.Common.{◌≡◌, ◌≤◌, ◌<◌, refl, ap, sym, ◌∙◌, length, arith}
+use Rattle.std.proofs.Common.{◌≡◌, ◌≤◌, refl, length, arith}
 use Rattle.std.specs.FinMap.{len}
 use Rattle.ix_belmap_cases.proofs.Walked.{in_range, named}
 use Rattle.ix_belmap_cases.proofs.checks.is_design.Goals as goal

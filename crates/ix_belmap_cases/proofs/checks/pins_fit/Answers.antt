@@ -1,4 +1,4 @@
-use Rattle.std.proofs.Common.{◌≡◌, ◌<◌, refl, ap, sym, ◌∙◌}
+use Rattle.std.proofs.Common.{refl}
 use Rattle.std.specs.FinMap.{entries}
 use Rattle.ix_belmap_cases.proofs.Walked.{walked_next}
 use Rattle.ix_belmap_cases.proofs.checks.pins_fit.Goals as goal

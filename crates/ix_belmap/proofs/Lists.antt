@@ -2,10 +2,10 @@
 use Rattle.std.proofs.Common.{◌≡◌, ◌≢◌, refl, ap, sym, subst, ◌∙◌, ℕ, zero, suc, ◌+◌, ◌<◌, ◌≤◌, List}
 use Rattle.std.proofs.Common.{[], ◌∷◌, ◌++◌, map, take, get_or, length, set, slice_get, Some, None, Bool, true}
 use Rattle.std.proofs.Common.{false, cond, ◌&&◌, ◌||◌, nat_eq, arith}
-use Rattle.std.specs.List.{AllByRecursion, filter, list_any, range_with_len}
+use Rattle.std.specs.List.{AllByRecursion, filter, list_all, list_any, range_with_len}
 use Rattle.std.proofs.lemmas.List.Elements.{filter-append}
 use Rattle.std.proofs.lemmas.Bool.{eqb-true, eqb-false}
-use Rattle.std.proofs.lemmas.List.Folds.{list_any-append}
+use Rattle.std.proofs.lemmas.List.Folds.{list_all-append, list_any-append}
 use Rattle.std.proofs.lemmas.List.{append_assoc}
 use Rattle.std.proofs.lemmas.List.FromFn.{map-range_with_len_more}
 use Rattle.std.proofs.lemmas.Option.{none-some, same_Some}
@@ -211,3 +211,22 @@ pub within_default : {A : Type 0} (xs : List A) (i : ℕ) (d e : A) → i < leng
 within_default [] i d e lt = absurd (omega arith)
 within_default (x ∷ xs) zero d e lt = refl
 within_default (x ∷ xs) (suc i) d e lt = within_default xs i d e (omega arith)
+
+-- all of the first items pass, with one more
+pub all_next : {A : Type 0} (p : A → Bool) (xs : List A) (i : ℕ) (x : A) → slice_get xs i ≡ Some x
+    → list_all p (take i xs) ≡ true → p x ≡ true → list_all p (take (i + 1) xs) ≡ true
+all_next p xs i x at before here =
+    ap (list_all p) (take_more xs i x at) ∙ list_all-append p (take i xs) (x ∷ [])
+    ∙ ap (λ b. b && list_all p (x ∷ [])) before ∙ ap (λ b. b && true) here
+
+pub all_fails : {A : Type 0} (p : A → Bool) (xs : List A) (i : ℕ) (x : A) → slice_get xs i ≡ Some x
+    → p x ≡ false → list_all p xs ≡ false
+all_fails p [] i x at fails = absurd (none-some x at)
+all_fails p (y ∷ ys) zero x at fails =
+    ap (λ b. b && list_all p ys) (ap p (same_Some y x at) ∙ fails)
+all_fails p (y ∷ ys) (suc i) x at fails =
+    ap (λ b. p y && b) (all_fails p ys i x at fails) ∙ and_false (p y)
+  where
+    and_false : (b : Bool) → (b && false) ≡ false
+    and_false true = refl
+    and_false false = refl

@@ -4,8 +4,8 @@ use Rattle.std.proofs.lemmas.Bool.{eqb-true, eqb-false, true≢false, false≢tr
 use Rattle.std.proofs.lemmas.List.Sums.{sum_by-append, sum_by-cons}
 use Rattle.std.proofs.lemmas.List.Folds.{list_any-append}
 use Rattle.std.specs.List.{count_by, filter, flat_map, list_any, range_with_len}
-use Rattle.ix_device.proofs.Walks.{take_next}
 use Rattle.ix_belmap.specs.Groups.{has_cell, times_in}
+use Rattle.ix_belmap.proofs.Lists.{take_more as next_taken}
 
 -- how often a cell is in a list
 abbrev pub times : List ℕ → ℕ → ℕ
@@ -131,7 +131,7 @@ step groups ports cells k q lt le g before = record {
     group = k ∷ members
 
     next : take (k + 1) groups ≡ take k groups ++ group ∷ []
-    next = take_next groups k group g.is
+    next = next_taken groups k group g.is
 
     has : has_cell (take (k + 1) groups) q ≡ (has_cell (take k groups) q || (nat_eq q k || list_any (nat_eq q) members))
     has = ap (λ l. has_cell l q) next ∙ list_any-append (list_any (nat_eq q)) (take k groups) (group ∷ []) ∙ ap (λ b. has_cell (take k groups) q || b) (or_false (nat_eq q k || list_any (nat_eq q) members))

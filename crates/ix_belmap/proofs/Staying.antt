@@ -3,7 +3,7 @@ use Rattle.std.proofs.Common.{◌≡◌, refl, ap, sym, subst, ◌∙◌, IfSome
 use Rattle.std.specs.List.{list_all}
 use Rattle.ix_rec.specs.declared.device.DeviceRec.{DeviceRec}
 use Rattle.ix_rec.specs.declared.device.SiteType.{SiteType}
-use Rattle.ix_device.proofs.Walks.{all_next, all_fails}
+use Rattle.ix_belmap.proofs.Lists.{all_fails, all_next}
 use Rattle.ix_belmap.specs.Groups.{is_home, stays_with}
 use Rattle.ix_belmap.proofs.BelSums.{within}
 

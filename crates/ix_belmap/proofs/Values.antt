@@ -2,11 +2,11 @@
 use Rattle.std.proofs.Common.{◌≡◌, refl, ap, sym, ◌∙◌, ℕ, zero, suc, ◌+◌, List, [], ◌∷◌, ◌++◌, take, drop, length, slice_get, Option, Some, None, option_map, option_and_then, Bool, true, false, cond, nat_eq, take-append-drop, arith}
 use Rattle.std.specs.List.{find}
 use Rattle.std.proofs.lemmas.Option.{none-some}
-use Rattle.ix_device.proofs.Walks.{take_next}
 use Rattle.ix_first.specs.First.{or_later}
 use Rattle.ix_rec.specs.declared.netlist.Entry.{Entry}
 use Rattle.ix_rec.specs.declared.netlist.PropertyValue.{PropertyValue}
 use Rattle.ix_belmap.specs.Pins.{value_of_key}
+use Rattle.ix_belmap.proofs.Lists.{take_more}
 
 push : (key : ℕ) (xs : List Entry) (x : Entry) → option_map (λ e. e.value) (find (λ e. nat_eq e.key key) (xs ++ x ∷ [])) ≡ or_later (option_map (λ e. e.value) (find (λ e. nat_eq e.key key) xs)) (nat_eq x.key key) x.value
 push key [] x = by (nat_eq x.key key)
@@ -25,7 +25,7 @@ pub value_next : (properties : List Entry) (i : ℕ) (e : Entry) (found : Option
     → or_later found (nat_eq e.key key) e.value ≡ value_of_key (take (i + 1) properties) key
 unfolding value_of_key
 value_next properties i e found key at is =
-    ap (λ f. or_later f (nat_eq e.key key) e.value) is ∙ sym (ap (λ l. option_map (λ e. e.value) (find (λ e. nat_eq e.key key) l)) (take_next properties i e at) ∙ push key (take i properties) e)
+    ap (λ f. or_later f (nat_eq e.key key) e.value) is ∙ sym (ap (λ l. option_map (λ e. e.value) (find (λ e. nat_eq e.key key) l)) (take_more properties i e at) ∙ push key (take i properties) e)
 
 pub value_start : (key : ℕ) → value_of_key [] key ≡ None
 unfolding value_of_key
@@ -46,7 +46,7 @@ find_push p (y ∷ ys) x h = by (p y) h (find_push p ys x)
     by false g rest = rest g
 
 pub find_next : {A : Type 0} (p : A → Bool) (xs : List A) (i : ℕ) (x : A) → slice_get xs i ≡ Some x → find p (take i xs) ≡ None → p x ≡ false → find p (take (i + 1) xs) ≡ None
-find_next p xs i x at before fails = ap (find p) (take_next xs i x at) ∙ find_push p (take i xs) x before ∙ ap (λ b. cond b (Some x) None) fails
+find_next p xs i x at before fails = ap (find p) (take_more xs i x at) ∙ find_push p (take i xs) x before ∙ ap (λ b. cond b (Some x) None) fails
 
 find_on : {A : Type 0} (p : A → Bool) (xs ys : List A) (x : A) → find p xs ≡ Some x → find p (xs ++ ys) ≡ Some x
 find_on p [] ys x h = absurd (none-some x h)
@@ -59,7 +59,7 @@ find_on p (y ∷ xs) ys x h = by (p y) h (find_on p xs ys x)
 pub find_here : {A : Type 0} (p : A → Bool) (xs : List A) (i : ℕ) (x : A) → slice_get xs i ≡ Some x → find p (take i xs) ≡ None → p x ≡ true → find p xs ≡ Some x
 find_here p xs i x at before passes =
     ap (find p) (sym (take-append-drop (i + 1) xs))
-    ∙ find_on p (take (i + 1) xs) (drop (i + 1) xs) x (ap (find p) (take_next xs i x at) ∙ find_push p (take i xs) x before ∙ ap (λ b. cond b (Some x) None) passes)
+    ∙ find_on p (take (i + 1) xs) (drop (i + 1) xs) x (ap (find p) (take_more xs i x at) ∙ find_push p (take i xs) x before ∙ ap (λ b. cond b (Some x) None) passes)
 
 pub same_values : (f g : ℕ → Option PropertyValue) (o : Option ℕ) → ((k : ℕ) → f k ≡ g k) → option_and_then f o ≡ option_and_then g o
 same_values f g None h = refl

@@ -1,5 +1,5 @@
 -- Taking the branches of a list with a stack of the lists that aren't done, the last on top.
-use Rattle.std.proofs.Common.{◌≡◌, ◌≤◌, ◌<◌, ◌+◌, ℕ, suc, List, [], ◌∷◌, ◌++◌, map, length, Ok, Err, refl, sym, ap, subst, ◌∙◌, append_assoc, arith}
+use Rattle.std.proofs.Common.{◌≡◌, ◌≤◌, ◌<◌, ◌+◌, ℕ, suc, List, [], ◌∷◌, ◌++◌, map, length, Ok, Err, refl, sym, ap, subst, ◌∙◌, append_assoc, ◌⊎◌, inl, inr, arith}
 use Rattle.std.specs.List.{flat_map}
 use Rattle.std.proofs.lemmas.List.{append-nil, map-append, length-map, length-append}
 use Rattle.ix_frame.specs.Objects.{element_of}
@@ -16,6 +16,7 @@ use Rattle.ix_rec.specs.Forest.{next_limit, limit_after, depths, StepsWithin}
 use Rattle.ix_rec.specs.declared.forest.Branch.{Branch}
 use Rattle.ix_rec.specs.declared.phys.Segment.{Segment}
 use Rattle.ix_phys_read.specs.declared.branches.Open.{Open}
+use Rattle.ix_phys_read.specs.Open.{Puts}
 use Rattle.ix_phys_read.specs.Sound.{AreSound}
 use Rattle.ix_take.specs.Walked.{walked}
 use Rattle.ix_phys_read.specs.Walked.{counted_structs}
@@ -74,6 +75,27 @@ pushed (y ∷ ys) x (u ∷ us) t h sound =
     record {
       stands = (h.0, p.stands);
       is = ap (λ (items : List (ℕ × List ℕ)). items ++ preorder y.depth u) p.is ∙ append_assoc (preorder x.depth t) (to_come ys us) (preorder y.depth u);
+    }
+
+-- Put on the stack, where it isn't done: what is to come is the same.
+pub record PutOn (ys zs : List Open) (x : Open) (us : List (Branches (List ℕ)))
+    (t : Branches (List ℕ)) : Type 0 where
+  pub trees : List (Branches (List ℕ))
+  pub stands : AreOpen zs trees
+  pub is : to_come zs trees ≡ preorder x.depth t ++ to_come ys us
+
+pub put_on : (ys zs : List Open) (x : Open) (us : List (Branches (List ℕ)))
+    (t : Branches (List ℕ)) → Puts x ys zs → AreOpen ys us
+    → AreSound (elements_of x.list) x.next t → PutOn ys zs x us t
+put_on ys zs x us t (inl is) h sound =
+    let p = pushed ys x us t h sound in
+    record { trees = us ++ t ∷ []; stands = rw is p.stands; is = rw is p.is }
+put_on ys zs x us t (inr done) h sound =
+    let none : t ≡ ends = none_left (elements_of x.list) x.next t sound done.0 in
+    record {
+      trees = us;
+      stands = rw done.1 h;
+      is = rw done.1 (ap (λ (b : Branches (List ℕ)). preorder x.depth b ++ to_come ys us) (sym none));
     }
 
 -- The loop: what was taken, and what the open lists still give, are the whole.
@@ -193,23 +215,31 @@ module _ (names table : List Text) (lists : Lists) (whole : Branches (List ℕ))
   abbrev row_of : Open → List ℕ
   row_of x = row_at segment 0 (element_of (elements_of x.list) x.next)
 
-  -- it was taken, and the lists beside and below it are open
-  pub goes_on : (xs ys : List Open) (x after below : Open) (found : List (Branch Segment)) (now then_ : List ℕ) (s : Segment) → xs ≡ ys ++ x ∷ [] → x.next < (elements_of x.list).count
+  -- a list that is done may be left off the stack
+  pub put_kept : (xs ys : List Open) (x : Open) (found : List (Branch Segment)) (now : List ℕ)
+      → Puts x xs ys → At (xs ++ x ∷ []) found now → At ys found now
+  put_kept xs ys x found now (inl is) h = rw is h
+  put_kept xs ys x found now (inr done) h =
+      rw done.1 (one_done (xs ++ x ∷ []) xs x found now refl done.0 h)
+
+  -- it was taken, and the lists beside and below it are open, where they aren't done
+  pub goes_on : (xs ys one two : List Open) (x after below : Open) (found : List (Branch Segment)) (now then_ : List ℕ) (s : Segment) → xs ≡ ys ++ x ∷ [] → x.next < (elements_of x.list).count
       → after ≡ record { list = x.list; next = x.next + 1; depth = x.depth } → elements_of below.list ≡ sound_elements (element_of (elements_of x.list) x.next) 0 → below.next ≡ 0 → below.depth ≡ x.depth + 1
+      → Puts after ys one → Puts below one two
       → data_by table (row_of x) ≡ segment_row names s → walked counted_structs now (item_steps lists (x.depth, row_of x)) ≡ Ok then_
-      → At xs found now → At ((ys ++ after ∷ []) ++ below ∷ []) (found ++ record { depth = x.depth; item = s } ∷ []) then_
-  goes_on xs ys x after below found now then_ s is lt after_is inner first deep same fits h =
+      → At xs found now → At two (found ++ record { depth = x.depth; item = s } ∷ []) then_
+  goes_on xs ys one two x after below found now then_ s is lt after_is inner first deep puts_one puts_two same fits h =
       let n = next xs ys x found now is lt h in
       let b = n.branch in
-      let one = pushed ys after n.under b.beside n.stands (rw after_is b.after) in
-      let two = pushed (ys ++ after ∷ []) below (n.under ++ b.beside ∷ []) b.below one.stands (rw (inner, first) b.inner) in
+      let p = put_on ys one after n.under b.beside puts_one n.stands (rw after_is b.after) in
+      let q = put_on one two below p.trees b.below puts_two p.stands (rw (inner, first) b.inner) in
       let item : ℕ × List ℕ = (x.depth, row_of x) in
-      let left : to_come ((ys ++ after ∷ []) ++ below ∷ []) ((n.under ++ b.beside ∷ []) ++ b.below ∷ []) ≡ n.rest =
-      two.is ∙ ap (λ (items : List (ℕ × List ℕ)). preorder below.depth b.below ++ items) one.is ∙ rw (deep, after_is) (sym n.rest_is) in
+      let left : to_come two q.trees ≡ n.rest =
+      q.is ∙ ap (λ (items : List (ℕ × List ℕ)). preorder below.depth b.below ++ items) p.is ∙ rw (deep, after_is) (sym n.rest_is) in
       record {
         taken = h.taken ++ item ∷ [];
-        trees = (n.under ++ b.beside ∷ []) ++ b.below ∷ [];
-        stands = two.stands;
+        trees = q.trees;
+        stands = q.stands;
         whole_is = h.whole_is ∙ ap (λ (items : List (ℕ × List ℕ)). h.taken ++ items) n.is ∙ sym (append_assoc h.taken (item ∷ []) n.rest) ∙ ap (λ (items : List (ℕ × List ℕ)). (h.taken ++ item ∷ []) ++ items) (sym left);
         made = map-append (shown names) found _ ∙ ap (λ (l : List (ℕ × List Datum)). l ++ (x.depth, segment_row names s) ∷ []) h.made ∙ ap (λ (d : List Datum). map (told (data_by table)) h.taken ++ (x.depth, d) ∷ []) (sym same) ∙ sym (map-append (told (data_by table)) h.taken (item ∷ []));
         steps = h.steps ∙ ap (λ (items : List (ℕ × List ℕ)). walked counted_structs now (flat_map (item_steps lists) items)) n.is ∙ walked_then counted_structs now then_ (item_steps lists item) (flat_map (item_steps lists) n.rest) fits ∙ ap (λ (items : List (ℕ × List ℕ)). walked counted_structs then_ (flat_map (item_steps lists) items)) (sym left);
@@ -240,3 +270,8 @@ module _ (names table : List Text) (lists : Lists) (whole : Branches (List ℕ))
 pub nothing_in : {A : Type 0} (xs : List A) → length xs ≡ 0 → xs ≡ []
 nothing_in [] h = refl
 nothing_in (x ∷ xs) h = absurd (omega arith)
+
+pub put_length : (x : Open) (old new : List Open) → Puts x old new → length new ≤ length old + 1
+put_length x old new (inl is) =
+    let m : length new ≡ length old + 1 = rw is (length-append old (x ∷ [])) in omega arith
+put_length x old new (inr done) = let m : length new ≡ length old = ap length done.1 in omega arith

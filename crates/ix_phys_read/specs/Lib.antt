@@ -4,3 +4,4 @@ pub mod Again
 pub mod Sound
 pub mod Views
 pub mod Walked
+pub mod Open

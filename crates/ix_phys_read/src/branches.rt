@@ -10,6 +10,7 @@ ghost use Rattle.ix_message.specs.Phys.{segment};
 ghost use Rattle.ix_schema.specs.Said.{branches_said};
 ghost use Rattle.ix_phys_write.specs.Record.{segment_row, IsSegmentNamed};
 ghost use Rattle.ix_phys_write.specs.Trees.{trees_at};
+ghost use Rattle.ix_phys_read.specs.Open.{Puts};
 ghost use Rattle.ix_phys_read.specs.Sound.{AreSound};
 ghost use Rattle.ix_take.specs.Views.{table_of, Takes};
 ghost use Rattle.ix_take.specs.Walked.{walked};
@@ -29,20 +30,19 @@ struct Open<'a> {
     depth: u32,
 }
 
-/// Puts a list of which so many branches were taken on top of the stack.
+/// Puts a list of which so many branches were taken on top of the stack, unless it is done.
 fn put<'a>(stack: &mut Vec<Open<'a>>, list: List<'a>, next: u32, depth: u32) -> Result<(), Memory>
-    ensures { OnOk result (stack.new.items ≡ stack.old.items ++ record {
-      list = list.entry;
-      next = next;
-      depth = depth;
-    } ∷ []) }
+    ensures { OnOk result (Puts (record { list = list.entry; next = next; depth = depth })
+        stack.old.items stack.new.items) }
 {
-    stack.push(Open { list, next, depth })?;
+    if next < list.len() {
+        stack.push(Open { list, next, depth })?;
+    }
     Ok(())
 }
 
 /// Takes the branches of a list, each with all that is below it before the next. The lists that are
-/// not done are kept on a stack; one without branches isn't put there.
+/// not done are kept on a stack, and no others: a chain of any length needs one place.
 pub fn take_branches(l: List<'_>, ctx: &Context<'_>, walk: &mut Walk) -> Result<Forest, Stop>
     requires { AreSound (elements_of l) 0 (branches_said segment (elements_of l) endless) }
     ensures made { Takes counted_structs
@@ -62,10 +62,7 @@ pub fn take_branches(l: List<'_>, ctx: &Context<'_>, walk: &mut Walk) -> Result<
             let segment = take_segment(o, ctx, walk)?;
             found.push(top.depth, segment)?;
             put(&mut stack, top.list, top.next + 1, top.depth)?;
-            let inner = o.sound_list(0);
-            if 0 < inner.len() {
-                put(&mut stack, inner, 0, top.depth + 1)?;
-            }
+            put(&mut stack, o.sound_list(0), 0, top.depth + 1)?;
         }
     }
     Ok(found)

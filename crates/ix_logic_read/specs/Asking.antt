@@ -4,9 +4,9 @@ use Rattle.ix_frame.specs.Objects.{u32_in}
 use Rattle.ix_frame.specs.Sound.{sound_elements, sound_struct}
 use Rattle.ix_frame.specs.Target.{Object, Elements}
 use Rattle.ix_frame.specs.Views.{elements_of}
-use Rattle.ix_message.specs.Indexes.{Entry, Lists, Step, entry_of, fits, no_entry, steps}
+use Rattle.ix_message.specs.Indexes.{Entry, Lists, Step, entry_of, fits, no_entry, only_table, steps}
 use Rattle.ix_message.specs.Names.{Datum, record_of}
-use Rattle.ix_message.specs.Netlist.{cell_declaration, cell_instance, port}
+use Rattle.ix_message.specs.Netlist.{cell_declaration, cell_instance, netlist, port}
 use Rattle.ix_message.specs.Shape.{Kind, Struct, Text, Value}
 use Rattle.ix_schema.specs.Said.{said, each_said}
 use Rattle.ix_take.specs.Views.{table_of}
@@ -70,3 +70,7 @@ boxed_list o slot = sound_elements (sound_struct o slot) 0
 -- the numbers of a property
 abbrev pub entry_row : Object → List ℕ
 entry_row o = u32_in o 0 ∷ u32_in o 1 % 2 ^ 16 ∷ u32_in o 2 ∷ []
+
+-- what is asked of the root, whose lists are those that indexes lead into
+abbrev pub root_asks : NetlistContext → Value ℕ netlist → List Step
+root_asks c v = steps netlist (only_table (length (table_of c.texts))) [] v

@@ -143,9 +143,9 @@ pub record IsInstanceNamed (names : List Text) (decls : ℕ) (i : CellInstance) 
   pub cell : i.cell < decls
   pub prop_map : All (IsEntryNamed names) i.prop_map.entries
 
-pub record IsDeclarationNamed (names : List Text) (ports : ℕ) (d : CellDeclaration) : Type 0 where
+pub record IsDeclarationNamed (names : List Text) (port_count : ℕ) (d : CellDeclaration) : Type 0 where
   pub name : IsName names d.name
-  pub ports : All (λ p. p < ports) d.ports
+  pub ports : All (λ p. p < port_count) d.ports
 
 abbrev pub IsOwnerWithin : ℕ → PortOwner → Type 0
 IsOwnerWithin insts ExtPort = Unit {0}
@@ -159,10 +159,10 @@ pub record IsNetNamed (names : List Text) (ports insts : ℕ) (n : Net) : Type 0
   pub name : IsName names n.name
   pub port_insts : All (IsPortInstanceWithin ports insts) n.port_insts
 
-pub record IsCellNamed (names : List Text) (decls ports insts : ℕ) (c : Cell) : Type 0 where
+pub record IsCellNamed (names : List Text) (decls port_count inst_count : ℕ) (c : Cell) : Type 0 where
   pub index : c.index < decls
-  pub insts : All (λ i. i < insts) c.insts
-  pub nets : All (IsNetNamed names ports insts) c.nets
+  pub insts : All (λ i. i < inst_count) c.insts
+  pub nets : All (IsNetNamed names port_count inst_count) c.nets
 
 pub record IsPortNamed (names : List Text) (p : Port) : Type 0 where
   pub name : IsName names p.name

@@ -17,19 +17,23 @@ use Rattle.ix_logic_read.specs.declared.context.CellContext.{CellContext}
 unfoldable pub entries_said : (s : Struct) → Elements → List Entry
 entries_said s l = map (entry_of s) (each_said (said s) l.count l 0)
 
--- the lists that indexes lead into
-unfoldable pub lists_in : NetlistContext → Lists
-lists_in c = record {
-  table = length (table_of c.texts);
+-- the lists that indexes lead into, with a string table of this length
+abbrev pub lists_with : ℕ → Elements → Elements → Elements → Lists
+lists_with table decls ports insts = record {
+  table = table;
   site_type_list = [];
   tile_type_list = [];
   wire_list = [];
   bel_pin_list = [];
   tile_wire_list = [];
-  cell_decl_list = entries_said cell_declaration (elements_of c.decls);
-  port_list = entries_said port (elements_of c.ports);
-  instance_list = entries_said cell_instance (elements_of c.insts);
+  cell_decl_list = entries_said cell_declaration decls;
+  port_list = entries_said port ports;
+  instance_list = entries_said cell_instance insts;
 }
+
+unfoldable pub lists_in : NetlistContext → Lists
+lists_in c = lists_with (length (table_of c.texts)) (elements_of c.decls) (elements_of c.ports)
+    (elements_of c.insts)
 
 -- what is asked of the cell around
 abbrev pub cell_entry : CellContext → Entry

@@ -1,6 +1,7 @@
 pub mod Entries
 pub mod Holding
 pub mod Lookup
+pub mod Root
 pub mod Rows
 pub mod Steps
 pub mod Telling

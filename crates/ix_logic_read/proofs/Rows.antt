@@ -100,3 +100,7 @@ took s to_record table lists mid found left l e is h = subst (λ (x : Elements).
 
 pub stuck : (e : Stop) (s : Struct) (lists : Lists) (mid : List ℕ) (l k : Elements) → l ≡ k → Stops netlist_structs e (walked netlist_structs mid (flat_map (steps s lists []) (list_said s l))) → Stops netlist_structs e (walked netlist_structs mid (each_asks s lists k))
 stuck e s lists mid l k is h = subst (λ (x : Elements). Stops netlist_structs e (walked netlist_structs mid (flat_map (steps s lists []) (list_said s x)))) is h
+
+pub root_said : (o : Object) → said netlist o ≡ ([], (sound_text o 0, (list_said entry (boxed_list o 1), (said cell_instance (sound_struct o 2), (list_said cell_declaration (sound_elements o 4), (list_said port (sound_elements o 5), (list_said cell_instance (sound_elements o 6), (list_said cell (sound_elements o 7), tt))))))))
+unfolding said row_at
+root_said o = refl

@@ -1,3 +1,5 @@
+pub mod Costs
+pub mod Counted
 pub mod Entries
 pub mod Holding
 pub mod Lookup
@@ -7,3 +9,4 @@ pub mod Steps
 pub mod Telling
 pub mod Texts
 pub mod Walking
+pub mod Whole

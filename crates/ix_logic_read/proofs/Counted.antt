@@ -1,6 +1,6 @@
 -- How many structs the steps of a message begin: no more than its reading costs. All are of kinds that are counted.
 use Prim.Native.String.{String}
-use Rattle.std.proofs.Common.{◌≡◌, ◌≤◌, ◌+◌, ◌++◌, ◌∙◌, ℕ, zero, suc, List, [], ◌∷◌, Bool, true, false, Option, Some, None, Ok, refl, sym, ap, arith}
+use Rattle.std.proofs.Common.{◌≡◌, ◌≤◌, ◌+◌, ◌++◌, ◌∙◌, ℕ, List, [], ◌∷◌, Bool, true, false, refl, sym, arith}
 use Rattle.std.specs.Prelude.{IfOk, ◌&&◌, ◌==◌}
 use Rattle.std.specs.List.{flat_map, sum_by}
 use Rattle.std.proofs.lemmas.Bool.{and_parts, eqb-true}
@@ -10,10 +10,9 @@ use Rattle.ix_frame.specs.Objects.{elements_at, list_at, struct_at, text_at}
 use Rattle.ix_frame.specs.Target.{Object, Elements}
 use Rattle.ix_message.specs.Indexes.{Lists, Entry, Step, begun, asked, ask_row, ask_all, steps, part_steps, lists_of, lengths_of, within}
 use Rattle.ix_message.specs.Reading.{each_from, value_at, parts_at}
-use Rattle.ix_message.specs.Shape.{Text, Field, Kind, Struct, Pointers, Value, Parts, struct_of, no_more, text, texts, numbers, struct, struct_or_none, boxed, structs, branches, string_table, unread}
+use Rattle.ix_message.specs.Shape.{Field, Kind, Struct, Pointers, Value, Parts, struct_of, no_more, text, texts, numbers, struct, struct_or_none, boxed, structs, branches, string_table, unread}
 use Rattle.ix_take.specs.Walked.{kinds_of, begun_in}
 use Rattle.ix_take.specs.Walks.{has_kind, AreOfKinds}
-use Rattle.ix_logic_read.specs.Structs.{netlist_structs}
 use Rattle.ix_logic_read.proofs.Costs.{and_then, each_left, elements_at_left, numbers_at_left, struct_at_left, text_at_left}
 
 pub begun_on : (xs ys : List Step) → begun_in (xs ++ ys) ≡ begun_in xs + begun_in ys
@@ -66,6 +65,7 @@ abbrev mutual
 
 mutual
   unfolding steps part_steps structs_in parts_in
+
   pub steps_begin : (ks : List String) (s : Struct) (l : Lists) (a : List Entry) (v : Value ℕ s) → is_flat ks s ≡ true → begun_in (steps s l a v) ≡ structs_in s v
   steps_begin ks (struct_of kind fields ps) l a v h =
       let here : Entry = record { row = v.0; lists = lists_of ps v.1; lengths = lengths_of ps v.1 } in
@@ -111,6 +111,7 @@ paid_each s single one e =
 
 mutual
   unfolding value_at parts_at structs_in parts_in
+
   pub value_paid : (ks : List String) (s : Struct) (o : Object) (b : ℕ) → is_flat ks s ≡ true → IfOk (value_at s o b) (Paid (structs_in s) (own_structs s) b)
   value_paid ks (struct_of kind fields ps) o b h =
       let two = and_parts (has_kind ks kind) (flat_parts ks ps) h in
@@ -172,6 +173,7 @@ all_kinds ss l a kind called k (n ∷ ns) h = (h, all_kinds ss l a kind called k
 
 mutual
   unfolding steps part_steps
+
   pub steps_kinds : (ss : List Struct) (s : Struct) (l : Lists) (a : List Entry) (v : Value ℕ s) → is_flat (kinds_of ss) s ≡ true → AreOfKinds ss (steps s l a v)
   steps_kinds ss (struct_of kind fields ps) l a v h =
       let here : Entry = record { row = v.0; lists = lists_of ps v.1; lengths = lengths_of ps v.1 } in

@@ -1,5 +1,5 @@
 -- The steps of structs with lists, once their own fields fit.
-use Rattle.std.proofs.Common.{◌≡◌, ◌++◌, ◌∙◌, ℕ, List, [], ◌∷◌, map, length, true, Ok, refl, sym, ap, subst}
+use Rattle.std.proofs.Common.{◌≡◌, ◌++◌, ◌∙◌, ℕ, List, [], ◌∷◌, map, length, true, Ok, refl, ap, subst}
 use Rattle.std.specs.Prelude.{nat_lt}
 use Rattle.std.specs.List.{flat_map}
 use Rattle.std.proofs.lemmas.List.{append-nil}
@@ -12,7 +12,7 @@ use Rattle.ix_message.specs.Names.{Datum, record_of}
 use Rattle.ix_message.specs.Netlist.{entry, cell_instance, cell_declaration, net, cell, port, netlist}
 use Rattle.ix_message.specs.Reading.{row_at}
 use Rattle.ix_message.specs.Shape.{Struct, Text, Value}
-use Rattle.ix_schema.specs.Said.{said, parts_said, each_said}
+use Rattle.ix_schema.specs.Said.{said, each_said}
 use Rattle.ix_take.specs.Views.{Stops}
 use Rattle.ix_take.specs.Walked.{walked}
 use Rattle.ix_take.specs.declared.stop.Stop.{Stop}

@@ -1,18 +1,17 @@
 -- From the walk over a whole netlist to what its reading tells.
-use Rattle.std.proofs.Common.{◌≡◌, ◌≤◌, ◌+◌, ◌^◌, ◌-◌, ◌∙◌, ℕ, List, [], ◌∷◌, length, replicate, Option, Some, None, Result, Ok, Err, refl, sym, ap, subst, arith}
-use Rattle.ix_device_read.specs.Reading.{reading_in_segments, record_unless_bad, IsBadField, IsReading, Refuses, FileReads}
+use Rattle.std.proofs.Common.{◌≡◌, ◌∙◌, ℕ, List, [], length, replicate, Option, Result, Ok, Err, refl, sym, ap, arith}
+use Rattle.ix_device_read.specs.Reading.{reading_in_segments, record_unless_bad, IsBadField, Refuses}
 use Rattle.ix_frame.specs.Segments.{Segments}
 use Rattle.ix_frame.specs.Target.{Object}
-use Rattle.ix_message.specs.Indexes.{Item, Lists, only_table, steps, first_bad, first_unfit}
-use Rattle.ix_message.specs.Message.{Unread, frame, out_of_list, unless_bad, numbers_in_segments, reading}
-use Rattle.ix_message.specs.Names.{Datum, record_of}
+use Rattle.ix_message.specs.Indexes.{Item, only_table, steps, first_bad}
+use Rattle.ix_message.specs.Message.{Unread, out_of_list, unless_bad, numbers_in_segments}
+use Rattle.ix_message.specs.Names.{record_of}
 use Rattle.ix_message.specs.Netlist.{netlist}
 use Rattle.ix_message.specs.Shape.{Text, Value}
 use Rattle.ix_rec.specs.declared.fault.ReadFault.{ReadFault}
 use Rattle.ix_rec.specs.declared.fault.ReadFault.TheVariants.{Frame, Index, Memory}
 use Rattle.ix_rec.specs.declared.place.Place.{Place}
 use Rattle.ix_rec.specs.declared.place.Place.TheVariants.{Item as Field}
-use Rattle.ix_logic_read.specs.Record.{netlist_record}
 use Rattle.ix_schema.specs.Said.{said}
 use Rattle.ix_take.specs.Views.{kind_word, field_word}
 use Rattle.ix_logic_read.specs.Told.{IsFieldAt, TellsField}

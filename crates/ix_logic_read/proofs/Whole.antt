@@ -1,5 +1,5 @@
 -- The first pass over a whole netlist, and the reading that it is part of.
-use Rattle.std.proofs.Common.{◌≡◌, ◌≤◌, ◌+◌, ◌^◌, ◌∙◌, ℕ, zero, suc, List, [], ◌∷◌, Result, Ok, Err, length, refl, sym, ap, subst, arith}
+use Rattle.std.proofs.Common.{◌≡◌, ◌≤◌, ◌+◌, ◌∙◌, ℕ, zero, suc, List, [], ◌∷◌, Result, Ok, Err, length, refl, sym, ap, subst, arith}
 use Rattle.std.specs.Prelude.{IfOk}
 use Rattle.ix_device_read.specs.Premises.{structs_in}
 use Rattle.ix_frame.specs.Objects.{list_at, text_in, root_of, whole_budget}
@@ -7,7 +7,6 @@ use Rattle.ix_frame.specs.Result.{◌>>=◌}
 use Rattle.ix_frame.specs.Segments.{Segments}
 use Rattle.ix_frame.specs.Sound.{endless}
 use Rattle.ix_frame.specs.Target.{Object, Elements}
-use Rattle.ix_message.specs.Indexes.{Lists, Entry, steps}
 use Rattle.ix_message.specs.Message.{numbers_in_segments}
 use Rattle.ix_message.specs.Netlist.{netlist}
 use Rattle.ix_message.specs.Reading.{root_at, value_at, parts_at, row_at, texts_at, texts_from}
@@ -19,7 +18,7 @@ use Rattle.ix_rec.specs.declared.fault.ReadFault.TheVariants.{Frame, Index, Memo
 use Rattle.ix_schema.specs.Passed.{left_at, parts_left, texts_passed}
 use Rattle.ix_schema.specs.Said.{said, parts_said, table_said}
 use Rattle.ix_schema.specs.Splitting.{ReadingsSplit}
-use Rattle.ix_take.specs.Walked.{begun_in, kinds_of}
+use Rattle.ix_take.specs.Walked.{kinds_of}
 use Rattle.ix_logic_read.specs.Passed.{most_cost, IsPassed}
 use Rattle.ix_logic_read.specs.Structs.{netlist_structs}
 use Rattle.ix_logic_read.proofs.Costs.{pointers_at_left, texts_passed_left}

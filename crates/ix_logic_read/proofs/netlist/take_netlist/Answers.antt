@@ -1,22 +1,19 @@
-use Rattle.std.proofs.Common.{◌≡◌, ◌∙◌, ◌++◌, ◌<◌, List, ℕ, [], length, map, refl, ap, sym, subst}
-use Rattle.std.specs.List.{All, flat_map}
+use Rattle.std.proofs.Common.{◌≡◌, ◌∙◌, ◌++◌, ℕ, [], length, refl, subst}
+use Rattle.std.specs.List.{All}
 use Rattle.std.proofs.lemmas.Option.{slice_get_within, get_or_from_slice_get}
 use Rattle.std.proofs.lemmas.Result.{err_from_is_err_and}
 use Rattle.ix_frame.specs.Sound.{sound_elements, sound_struct, sound_text}
-use Rattle.ix_frame.specs.Target.{Elements, Object}
 use Rattle.ix_frame.specs.Views.{object_of, elements_of}
-use Rattle.ix_message.specs.Indexes.{Lists, Step, steps}
+use Rattle.ix_message.specs.Indexes.{steps}
 use Rattle.ix_message.specs.Names.{record_of}
-use Rattle.ix_message.specs.Netlist.{entry, cell_instance, cell_declaration, port, cell, netlist}
-use Rattle.ix_message.specs.Reading.{row_at}
+use Rattle.ix_message.specs.Netlist.{entry, cell_instance, cell_declaration, port, cell}
 use Rattle.ix_schema.specs.Said.{said}
 use Rattle.ix_take.specs.Going.{stops_first, walked_then}
-use Rattle.ix_take.specs.Views.{Stops, table_of}
-use Rattle.ix_take.specs.Walked.{walked}
+use Rattle.ix_take.specs.Views.{table_of}
 use Rattle.ix_logic_read.specs.Asking.{boxed_list, decls_in, insts_in, lists_in, ports_in}
 use Rattle.ix_logic_read.specs.Record.{cell_declaration_record, cell_instance_record, cell_record, port_record, IsCellNamed, IsDeclarationNamed, IsInstanceNamed}
 use Rattle.ix_logic_read.specs.Structs.{netlist_structs}
-use Rattle.ix_logic_read.proofs.Rows.{each_asks, list_said, root_said, root_parts, took, stuck}
+use Rattle.ix_logic_read.proofs.Rows.{each_asks, root_said, took, stuck}
 use Rattle.ix_logic_read.proofs.Root.{asks_on, many_taken}
 use Rattle.ix_logic_read.proofs.netlist.take_netlist.Goals as goal
 

@@ -105,8 +105,25 @@ WHOLE = {
 }
 
 
+def used(structs, kind, value, texts):
+    """Adds the names of a struct to the texts, each where it is first used."""
+    for field in [f for f in structs[kind] if f.is_data and f.is_name]:
+        text = value.get(field.name)
+        if isinstance(text, str) and text not in texts:
+            texts.append(text)
+    for field in structs[kind]:
+        inner = value.get(field.name)
+        if field.form in structs and inner:
+            used(structs, field.form, inner, texts)
+        if field.form[5:-1] in structs:
+            for one in inner or []:
+                used(structs, field.form[5:-1], one, texts)
+
+
 def encoded(value):
-    return message.encode(SCHEMA, value)
+    texts = []
+    used(message.read_schema(SCHEMA)[0], "Netlist", value, texts)
+    return message.encode(SCHEMA, {"strList": texts, **value})
 
 
 def read(file):

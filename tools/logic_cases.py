@@ -63,10 +63,13 @@ def netlist(value):
 
 # The cases.
 
-LUT = {"key": "INIT", "tag": 0, "value": "8"}
+def init():
+    return {"key": "INIT", "tag": 0, "value": "8"}
+
+
 WHOLE = {
     "name": "demo",
-    "propMap": {"entries": [LUT, {"key": "n", "tag": 1, "value": 7}, {"key": "b", "tag": 2, "value": 1}]},
+    "propMap": {"entries": [init(), {"key": "n", "tag": 1, "value": 7}, {"key": "b", "tag": 2, "value": 1}]},
     "topInst": {"name": "top", "cell": 0, "propMap": {"entries": [{"key": "c", "tag": 2, "value": 2}]}},
     "cellDecls": [
         {"name": "top", "ports": [0, 1]},
@@ -76,13 +79,13 @@ WHOLE = {
     ],
     "portList": [
         {"name": "in", "dir": 0, "kind": 1, "busStart": 3, "busEnd": 0},
-        {"name": "out", "dir": 1, "propMap": {"entries": [LUT]}},
+        {"name": "out", "dir": 1, "propMap": {"entries": [init()]}},
         {"name": "A", "dir": 0, "kind": 1, "busStart": 4, "busEnd": 5},
         {"name": "O", "dir": 1},
         {"name": "x", "dir": 2},
     ],
     "instList": [
-        {"name": "u0", "cell": 1, "propMap": {"entries": [LUT]}},
+        {"name": "u0", "cell": 1, "propMap": {"entries": [init()]}},
         {"name": "u1", "cell": 1},
         {"name": "m", "cell": 2},
     ],

@@ -1,5 +1,6 @@
 -- What the values of this crate are, and what its calls tell.
-use Rattle.std.specs.Prelude.{◌≡◌, ℕ, List, map, Bool, true, false, Result, Ok, Err}
+use Rattle.std.specs.Prelude.{◌≡◌, ℕ, List, map, Bool, true, false, nat_lt, Result, Ok, Err}
+use Rattle.std.specs.List.{list_all}
 use Rattle.ix_message.specs.Indexes.{Item}
 use Rattle.ix_message.specs.Names.{Datum}
 use Rattle.ix_message.specs.Shape.{Text, Struct}
@@ -24,6 +25,14 @@ field_word structs kind field = field_text structs kind field
 abbrev pub Asked : {X : Type 0} → (X → Datum) → Result X Stop → Bool → Datum → Stop → Type 0
 Asked view (Ok x) fits held stop = (fits ≡ true) × (held ≡ view x)
 Asked view (Err e) fits held stop = (fits ≡ false) × (e ≡ stop)
+
+-- Each number of a list was asked, and they are these; or one is out of its list, which is told so.
+-- Want of memory may be told at any time.
+abbrev pub AskedEach : Result (List ℕ) Stop → List ℕ → ℕ → Stop → Type 0
+AskedEach (Ok xs) ns many stop = (xs ≡ ns) × (list_all (λ n. nat_lt n many) ns ≡ true)
+AskedEach (Err Memory) ns many stop = Unit {0}
+AskedEach (Err (OutOfList kind field i)) ns many stop =
+    (OutOfList kind field i ≡ stop) × (list_all (λ n. nat_lt n many) ns ≡ false)
 
 -- The steps stop at the field that is told. Want of memory may be told at any time.
 abbrev pub Stops : List Struct → Stop → Result (List ℕ) Item → Type 0

@@ -1,19 +1,22 @@
 //! A struct of a message that is being taken.
 
 ghost use Rattle.std.specs.Prelude.{◌≡◌, ◌<◌, ◌%◌, ◌-◌, ◌^◌, slice_index, length, nat_lt, IfOk};
+ghost use Rattle.std.specs.List.{All};
 ghost use Rattle.ix_frame.specs.Objects.{u32_in};
-ghost use Rattle.ix_frame.specs.Views.{object_of};
+ghost use Rattle.ix_frame.specs.Views.{object_of, numbers_of};
 ghost use Rattle.ix_message.specs.Names.{datum_of, the_number, the_text};
 ghost use Rattle.ix_message.specs.Shape.{name};
 ghost use Rattle.ix_message_write.specs.Table.{name_text};
-ghost use Rattle.ix_take.specs.Views.{table_of, Asked};
+ghost use Rattle.ix_take.specs.Views.{table_of, Asked, AskedEach};
 ghost use Rattle.ix_take.specs.declared.stop.Stop.TheVariants.{OutOfList};
 
 use crate::context::Context;
 use crate::stop::Stop;
 use crate::walk::{KINDS, Walk};
-use ix_frame::Obj;
+use ix_frame::{Numbers, Obj};
 use ix_num::NameId;
+use ix_rec::Items;
+use std::alloc::Global;
 
 /// A struct of a message, and its kind among those that are counted.
 #[derive(Clone, Copy)]
@@ -88,5 +91,31 @@ impl<'a> At<'a> {
         } else {
             Err(self.stop(walk, field as usize))
         }
+    }
+
+    /// The numbers of a list behind the pointer field with this number, where each is below so
+    /// many, or that one isn't.
+    pub fn indexes(
+        &self,
+        alloc: Global,
+        l: Numbers<'_>,
+        walk: &Walk,
+        field: usize,
+        many: u32,
+    ) -> Result<Items<u32>, Stop>
+        requires { self.now.kind < KINDS }
+        ensures made { AskedEach result (numbers_of l.entry) many
+            (OutOfList self.now.kind field (slice_index walk.now self.now.kind - 1)) }
+        ensures below { IfOk result (All (λ n. n < many)) }
+    {
+        let mut found = Items::with_capacity(alloc, l.len() as usize)?;
+        for i in 0..l.len() {
+            let n = l.at(i);
+            if n >= many {
+                return Err(self.stop(walk, field));
+            }
+            found.push(n)?;
+        }
+        Ok(found)
     }
 }

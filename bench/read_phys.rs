@@ -4,46 +4,12 @@
 //!
 //! usage: read_phys NETLIST
 
+mod device;
 mod frame;
 
-use frame::{Fault, List, Obj, budget, open, root};
-use std::collections::HashMap;
+use device::{Context, Name, Read, each};
+use frame::{List, Obj, budget, open, root};
 use std::process::exit;
-
-type Name = u32;
-type Read<T> = Result<T, Fault>;
-
-#[derive(Default)]
-struct Context<'a> {
-    names: HashMap<&'a str, Name>,
-    texts: Vec<String>,
-    strings: Vec<Name>,
-    bad: Option<(&'static str, &'static str)>,
-}
-
-impl<'a> Context<'a> {
-    fn add(&mut self, text: &'a str) -> Name {
-        let next = self.texts.len() as Name;
-        let texts = &mut self.texts;
-        *self.names.entry(text).or_insert_with(|| {
-            texts.push(text.to_string());
-            next
-        })
-    }
-
-    fn below(&mut self, kind: &'static str, field: &'static str, limit: u32, n: u32) -> u32 {
-        if n >= limit && self.bad.is_none() {
-            self.bad = Some((kind, field));
-        }
-        n
-    }
-
-    fn name(&mut self, kind: &'static str, field: &'static str, n: u32) -> Name {
-        let limit = self.strings.len() as u32;
-        self.below(kind, field, limit, n);
-        self.strings.get(n as usize).copied().unwrap_or(0)
-    }
-}
 
 #[allow(dead_code)]
 struct Segment {
@@ -84,21 +50,6 @@ struct Phys {
     nets: Vec<Net>,
     sites: Vec<(Name, Name)>,
     properties: Vec<(Name, Name)>,
-}
-
-fn each<'a, T>(
-    o: &Obj<'a>,
-    slot: u32,
-    c: &mut Context<'a>,
-    left: &mut u64,
-    one: impl Fn(&Obj<'a>, &mut Context<'a>, &mut u64) -> Read<T>,
-) -> Read<Vec<T>> {
-    let list = o.list(slot, left)?;
-    let mut found = Vec::with_capacity(list.count as usize);
-    for i in 0..list.count {
-        found.push(one(&list.at(i), c, left)?);
-    }
-    Ok(found)
 }
 
 fn segment(o: &Obj, c: &mut Context) -> Segment {

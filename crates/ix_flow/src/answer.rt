@@ -70,7 +70,7 @@ fn opened_content(content: &Content) -> Result<Frame<'_>, Rule>
 {
     match content {
         Content::Bytes(bytes) => opened(bytes.as_slice()),
-        Content::TooLong => Err(Rule::F9),
+        Content::TooLarge => Err(Rule::F9),
     }
 }
 

@@ -1,6 +1,7 @@
 //! `flow` as the work of a job.
 
 ghost use Rattle.std.specs.Prelude.{◌≡◌, length, map, IfOk};
+ghost use Rattle.ix_job.specs.Job.{HasOutputs};
 ghost use Rattle.ix_job.specs.Views.{content_seen, outcome_seen};
 ghost use Rattle.ix_flow.specs.Answer.{IsFlowOutcome};
 
@@ -17,12 +18,15 @@ pub(crate) struct FlowWork;
 impl Work for FlowWork {
     ghost inputs_count = { λ work. 2 };
 
+    ghost outputs_count = { λ work. 1 };
+
     ghost is_outcome = { λ work. IsFlowOutcome };
 
     fn outcome(&self, alloc: Global, inputs: &Items<Content>) -> Result<Outcome, Memory>
         requires { length inputs.now ≡ 2 }
-        ensures { IfOk result (λ outcome. IsFlowOutcome (map content_seen inputs.now)
+        ensures outcome { IfOk result (λ outcome. IsFlowOutcome (map content_seen inputs.now)
             (outcome_seen outcome)) }
+        ensures outputs { IfOk result (λ outcome. HasOutputs 1 (outcome_seen outcome)) }
     {
         match answer(alloc, inputs.at(0), inputs.at(1)) {
             Ok(outcome) => Ok(outcome),

@@ -6,7 +6,7 @@ use Rattle.std.specs.List.{AllByRecursion}
 use Rattle.ix_shelf.specs.Shelf.{Files, Rose, IsAbsent, LeavesPrefix, with_file}
 use Rattle.ix_report.specs.declared.report.Report as reports
 use Rattle.ix_report.specs.declared.report.Report.TheVariants as a_report
-use Rattle.ix_job.specs.Outside.{Outside, KeepsCounts, IsTold, Telling, stands, not_put}
+use Rattle.ix_job.specs.Outside.{Outside, KeepsCounts, IsTold, Telling, stands, not_put, writes}
 
 -- the bytes of a file's name
 abbrev pub Name : Type 0
@@ -32,6 +32,11 @@ pub record Outcome : Type 0 where
   pub report : reports.Report
   pub outputs : List (List ℕ)
 
+-- It has so many outputs where its report is of a job that has written them; others have none.
+abbrev pub HasOutputs : ℕ → Outcome → Type 0
+HasOutputs count outcome =
+    length outcome.outputs ≡ (if writes outcome.report then count else 0)
+
 -- the contents of the files of these names, which are all there
 abbrev pub AreContents : Files → List Name → List Content → Type 0
 AreContents files names contents =
@@ -44,7 +49,8 @@ with_files (name ∷ names) (bytes ∷ outputs) files
 with_files [] outputs files = files
 with_files (name ∷ names) [] files = files
 
--- an outcome for the contents of the inputs, which are those of the files where these are told
+-- An outcome for the contents of the inputs, which are those of the files where these are told. It
+-- has an output for each name, or none.
 pub record HasOutcome (is_outcome : List Content → Outcome
     → Type 0) (job : Job) (told : Option Files) : Type 0 where
   pub contents : List Content
@@ -52,6 +58,7 @@ pub record HasOutcome (is_outcome : List Content → Outcome
   pub count : length contents ≡ length job.inputs
   pub read : (files : Files) → told ≡ Some files → AreContents files job.inputs contents
   pub is : is_outcome contents outcome
+  pub has_outputs : HasOutputs (length job.outputs) outcome
 
 -- The job was done or refused: all its outputs were written, and no write was tried where there are
 -- none.

@@ -48,6 +48,15 @@ is_done (a_report.No rule place) = true
 is_done (a_report.Demo number luts flip_flops ports) = true
 is_done report = false
 
+-- A report of a job that is done and has written its outputs.
+abbrev pub writes : reports.Report → Bool
+writes (a_report.Packed cells clusters) = true
+writes (a_report.Placed clusters length) = true
+writes (a_report.Routed nets pips rounds) = true
+writes (a_report.Implemented cells clusters nets pips trial rounds) = true
+writes (a_report.Demo number luts flip_flops ports) = true
+writes report = false
+
 -- how a report was told
 pub data Telling : Type 0 where
   -- its status stands

@@ -11,7 +11,7 @@ use Rattle.ix_report.specs.declared.report.Report.TheVariants as a_report
 use Rattle.ix_job.specs.declared.run.Ready.{Ready}
 use Rattle.ix_job.specs.Outside.{Outside, Tells}
 use Rattle.ix_job.specs.Job.{Name, Content as ContentSeen, Outcome, content_of, AreContents}
-use Rattle.ix_job.specs.Job.{with_files}
+use Rattle.ix_job.specs.Job.{HasOutputs, with_files}
 use Rattle.ix_job.specs.Views.{content_seen}
 
 -- this content was read of the file, where the shelf tells its files
@@ -49,9 +49,11 @@ pub record IsUnwrittenAt (old new : Option Files) (before now : Counts) (names :
 
 -- all that is to be written and told was made, for an outcome of these contents
 pub record IsMadeOf (is_outcome : List ContentSeen → Outcome
-    → Type 0) (contents : List ContentSeen) (outputs : List Name) (r : Ready) : Type 0 where
+    → Type 0) (contents : List ContentSeen) (count : ℕ) (outputs : List Name) (r : Ready)
+    : Type 0 where
   pub outcome : Outcome
   pub is : is_outcome contents outcome
+  pub has_outputs : HasOutputs count outcome
   pub outputs_are : r.outputs ≡ outcome.outputs
   pub report : r.done.report ≡ outcome.report
   pub faults : map (λ l. l.report) r.faults.items ≡ map (λ name. a_report.WriteFault name) outputs

@@ -7,7 +7,7 @@ use Rattle.ix_job.specs.Job.{Content, Outcome}
 
 abbrev pub content_seen : code.Content → Content
 content_seen (a_content.Bytes bytes) = Some bytes
-content_seen a_content.TooLong = None
+content_seen a_content.TooLarge = None
 
 abbrev pub outcome_seen : made.Outcome → Outcome
 outcome_seen o = record { report = o.report; outputs = o.outputs }

@@ -36,7 +36,7 @@ fn read_input<S: Shelf>(alloc: Global, shelf: &mut S, name: &str) -> Result<Cont
 {
     match read_file(alloc, shelf, name) {
         Ok(bytes) => Ok(Content::Bytes(Bytes::new(bytes))),
-        Err(FileFault::TooLarge) => Ok(Content::TooLong),
+        Err(FileFault::TooLarge) => Ok(Content::TooLarge),
         Err(FileFault::Memory) => Err(Missing::Memory),
         // A read answers no fault at writing.
         Err(FileFault::Read | FileFault::Write) => Err(Missing::Fault),

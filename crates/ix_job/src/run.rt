@@ -84,7 +84,7 @@ fn prepare<W: Work>(
 ) -> Result<Ready, Memory>
     requires { length contents.now ≡ W.inputs_count work.now }
     ensures { IfOk result (IsMadeOf (W.is_outcome work.now) (map content_seen contents.now)
-        (map (λ name. name.now) outputs.now)) }
+        (W.outputs_count work.now) (map (λ name. name.now) outputs.now)) }
 {
     let outcome = work.outcome(alloc, contents)?;
     with_lines(alloc, outputs, outcome)
@@ -164,7 +164,8 @@ pub fn run_job<W: Work, S: Shelf, O: Sink>(
     shelf: &mut S,
     out: &mut O,
 ) -> Result<Report, Failed>
-    requires { length inputs.now ≡ W.inputs_count work.now }
+    requires inputs { length inputs.now ≡ W.inputs_count work.now }
+    requires outputs { length outputs.now ≡ W.outputs_count work.now }
     ensures run { RunsJob (W.is_outcome work.now)
         (job_of (map (λ name. name.now) inputs.now) (map (λ name. name.now) outputs.now))
         (outside S.files S.read_faults S.write_faults O.told O.faults shelf.old out.old)

@@ -1,7 +1,7 @@
 //! The work of a job.
 
 ghost use Rattle.std.specs.Prelude.{◌≡◌, ℕ, List, length, map, IfOk};
-ghost use Rattle.ix_job.specs.Job.{Content as ContentSeen, Outcome as OutcomeSeen};
+ghost use Rattle.ix_job.specs.Job.{Content as ContentSeen, Outcome as OutcomeSeen, HasOutputs};
 ghost use Rattle.ix_job.specs.Views.{content_seen, outcome_seen};
 
 use ix_num::Memory;
@@ -15,7 +15,7 @@ pub enum Content {
     /// All its bytes.
     Bytes(Bytes),
     /// It has more than 2^30 bytes.
-    TooLong,
+    TooLarge,
 }
 
 /// What a job comes to.
@@ -32,6 +32,9 @@ pub trait Work {
     /// How many inputs the job has.
     ghost inputs_count: { Self → ℕ };
 
+    /// How many outputs the job has where it is done.
+    ghost outputs_count: { Self → ℕ };
+
     /// Whether the job may come to this with these contents, which stand in the order of the
     /// inputs' names.
     ghost is_outcome: { Self → List ContentSeen → OutcomeSeen → Type 0 };
@@ -39,6 +42,8 @@ pub trait Work {
     /// What the job comes to. `Memory` is its only error.
     fn outcome(&self, alloc: Global, inputs: &Items<Content>) -> Result<Outcome, Memory>
         requires { length inputs.now ≡ inputs_count self.now }
-        ensures { IfOk result (λ outcome. is_outcome self.now (map content_seen inputs.now)
+        ensures outcome { IfOk result (λ outcome. is_outcome self.now (map content_seen inputs.now)
+            (outcome_seen outcome)) }
+        ensures outputs { IfOk result (λ outcome. HasOutputs (outputs_count self.now)
             (outcome_seen outcome)) };
 }

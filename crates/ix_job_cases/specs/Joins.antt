@@ -1,5 +1,5 @@
 -- A job for trials: two files are joined in both orders. It says no where the first is empty; one
--- that is too long is refused.
+-- that is too large is refused.
 use Rattle.std.specs.Prelude.{◌≡◌, ◌==◌, List, [], ◌∷◌, ◌++◌, length, Some, None, if◌then◌else◌}
 use Rattle.ix_rec.specs.declared.place.File.TheVariants.{Device}
 use Rattle.ix_rec.specs.declared.place.Rule.TheVariants.{E2}

@@ -1,6 +1,7 @@
 //! The job of the cases.
 
 ghost use Rattle.std.specs.Prelude.{◌≡◌, ◌++◌, ◌∷◌, [], Some, length, map, IfOk};
+ghost use Rattle.ix_job.specs.Job.{HasOutputs};
 ghost use Rattle.ix_job.specs.Views.{content_seen, outcome_seen};
 ghost use Rattle.ix_job_cases.specs.Joins.{joined, IsJoined};
 
@@ -66,13 +67,13 @@ fn joined_contents(alloc: Global, a: &Content, b: &Content) -> Result<Outcome, M
     match a {
         Content::Bytes(first) => match b {
             Content::Bytes(second) => outcome_of(alloc, first.as_slice(), second.as_slice()),
-            Content::TooLong => Ok(refusal(alloc)),
+            Content::TooLarge => Ok(refusal(alloc)),
         },
-        Content::TooLong => Ok(refusal(alloc)),
+        Content::TooLarge => Ok(refusal(alloc)),
     }
 }
 
-/// The outcome where a file is too long.
+/// The outcome where a file is too large.
 fn refusal(alloc: Global) -> Outcome
     ensures { outcome_seen result ≡ record { report = Report.NotBuilt File.Device; outputs = [] } }
 {
@@ -85,12 +86,15 @@ fn refusal(alloc: Global) -> Outcome
 impl Work for Joins {
     ghost inputs_count = { λ work. 2 };
 
+    ghost outputs_count = { λ work. 2 };
+
     ghost is_outcome = { λ work. IsJoined };
 
     fn outcome(&self, alloc: Global, inputs: &Items<Content>) -> Result<Outcome, Memory>
         requires { length inputs.now ≡ 2 }
-        ensures { IfOk result (λ outcome. IsJoined (map content_seen inputs.now)
+        ensures outcome { IfOk result (λ outcome. IsJoined (map content_seen inputs.now)
             (outcome_seen outcome)) }
+        ensures outputs { IfOk result (λ outcome. HasOutputs 2 (outcome_seen outcome)) }
     {
         joined_contents(alloc, inputs.at(0), inputs.at(1))
     }

@@ -4,7 +4,7 @@ ghost use Rattle.std.specs.Prelude.{◌≡◌, ◌+◌, ◌-◌, ◌^◌, ◌<�
 ghost use Rattle.ix_phys_write.specs.Record.{IsPhysNamed};
 
 use crate::chain::chain_of;
-use crate::told::{put_chain, put_netlist};
+use crate::summary::{put_chain, put_netlist};
 use ix_cases::{bytes_of, field, number};
 use ix_frame::Frame;
 use ix_phys_read::read_phys;
@@ -45,7 +45,12 @@ fn read(alloc: Global, file: &[u8], names: &mut Names) -> Result<Phys, ReadFault
 }
 
 /// Writes how a netlist is told, a chain by its length.
-fn put_told(text: &mut String, line: &str, names: &Names, phys: &Phys) -> Result<(), AllocError> {
+fn put_summary(
+    text: &mut String,
+    line: &str,
+    names: &Names,
+    phys: &Phys,
+) -> Result<(), AllocError> {
     if field(line, 2).is_empty() {
         put_netlist(text, names, phys)
     } else {
@@ -54,11 +59,11 @@ fn put_told(text: &mut String, line: &str, names: &Names, phys: &Phys) -> Result
 }
 
 /// Whether a file is read as a netlist that is told so.
-fn is_told_so(alloc: Global, line: &str, file: &[u8], wanted: &str) -> Result<bool, AllocError> {
+fn has_summary(alloc: Global, line: &str, file: &[u8], wanted: &str) -> Result<bool, AllocError> {
     let mut names = Names::new(alloc);
     let mut text = String::new(alloc);
     match read(alloc, file, &mut names) {
-        Ok(phys) => put_told(&mut text, line, &names, &phys)?,
+        Ok(phys) => put_summary(&mut text, line, &names, &phys)?,
         Err(fault) => put_fault(&mut text, &fault)?,
     }
     Ok(text.as_str() == wanted)
@@ -76,9 +81,9 @@ fn put_again(
 ) -> Result<(), AllocError>
     requires { IsPhysNamed names.now phys.now }
 {
-    let mut told = String::new(alloc);
-    put_told(&mut told, line, names, phys)?;
-    text.push_str(told.as_str())?;
+    let mut summary = String::new(alloc);
+    put_summary(&mut summary, line, names, phys)?;
+    text.push_str(summary.as_str())?;
     match write_phys(alloc, phys, names) {
         Ok(written) => {
             if written.as_slice() == file {
@@ -86,7 +91,7 @@ fn put_again(
             } else {
                 text.push_str("; written otherwise")?;
             }
-            if is_told_so(alloc, line, written.as_slice(), told.as_str())? {
+            if has_summary(alloc, line, written.as_slice(), summary.as_str())? {
                 text.push_str(", reads again")
             } else {
                 text.push_str(", reads otherwise")

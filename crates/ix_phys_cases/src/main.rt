@@ -11,7 +11,7 @@
 
 mod answer;
 mod chain;
-mod told;
+mod summary;
 
 use crate::answer::answer_to;
 use ix_cases::is_case;

@@ -42,15 +42,15 @@ fn put<'a>(stack: &mut Vec<Open<'a>>, list: List<'a>, next: u32, depth: u32) -> 
 }
 
 /// Takes the branches of a list, each with all that is below it before the next. The lists that are
-/// not done are kept on a stack.
+/// not done are kept on a stack; one without branches isn't put there.
 pub fn take_branches(l: List<'_>, ctx: &Context<'_>, walk: &mut Walk) -> Result<Forest, Stop>
     requires { AreSound (elements_of l) 0 (branches_said segment (elements_of l) endless) }
-    ensures made { Takes counted_structs (λ bs. branches_map (segment_row ctx.now.names.now) (trees_at 0 bs))
-        result walk.new
+    ensures made { Takes counted_structs
+        (λ bs. branches_map (segment_row ctx.now.names.now) (trees_at 0 bs)) result walk.new
         (branches_map (λ row. data_of (table_of ctx.now) row segment row)
         (branches_said segment (elements_of l.entry) endless))
-        (walked counted_structs walk.old (branch_steps (only_table (length (table_of ctx.now))) "RouteBranch"
-        segment (branches_said segment (elements_of l.entry) endless))) }
+        (walked counted_structs walk.old (branch_steps (only_table (length (table_of ctx.now)))
+        "RouteBranch" segment (branches_said segment (elements_of l.entry) endless))) }
     ensures named { IfOk result (All (IsSegmentNamed ctx.now.names.now)) }
 {
     let mut found = Forest::new(ctx.alloc);
@@ -62,7 +62,10 @@ pub fn take_branches(l: List<'_>, ctx: &Context<'_>, walk: &mut Walk) -> Result<
             let segment = take_segment(o, ctx, walk)?;
             found.push(top.depth, segment)?;
             put(&mut stack, top.list, top.next + 1, top.depth)?;
-            put(&mut stack, o.sound_list(0), 0, top.depth + 1)?;
+            let inner = o.sound_list(0);
+            if 0 < inner.len() {
+                put(&mut stack, inner, 0, top.depth + 1)?;
+            }
         }
     }
     Ok(found)

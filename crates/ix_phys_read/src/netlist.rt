@@ -34,7 +34,8 @@ pub fn take_netlist(
     requires part { slice_get ctx.now.texts.names.now part ≡ Some (sound_text (object_of root) 0) }
     ensures made { Takes counted_structs (phys_record ctx.now.texts.names.now) result walk.new
         (record_of (table_of ctx.now.texts) phys_netlist (said phys_netlist (object_of root.entry)))
-        (walked counted_structs walk.old (steps phys_netlist (only_table (length (table_of ctx.now.texts))) []
+        (walked counted_structs walk.old
+        (steps phys_netlist (only_table (length (table_of ctx.now.texts))) []
         (said phys_netlist (object_of root.entry)))) }
     ensures named { IfOk result (IsPhysNamed ctx.now.texts.names.now) }
 {

@@ -1,6 +1,7 @@
 //! A route branch without the branches that follow it.
 
-ghost use Rattle.std.specs.Prelude.{◌≡◌, ◌<◌, ◌==◌, ◌-◌, [], ◌∷◌, length, nat_lt, true, ℕ, IfOk, slice_index};
+ghost use Rattle.std.specs.Prelude.{◌≡◌, ◌<◌, ◌==◌, ◌-◌, [], ◌∷◌, length, nat_lt, true, ℕ, IfOk};
+ghost use Rattle.std.specs.Prelude.{slice_index};
 ghost use Rattle.std.specs.Prelude.{if◌then◌else◌};
 ghost use Rattle.ix_frame.specs.Objects.{u32_in};
 ghost use Rattle.ix_frame.specs.Views.{object_of};
@@ -68,7 +69,8 @@ pub fn take_segment(o: Obj<'_>, ctx: &Context<'_>, walk: &mut Walk) -> Result<Se
     ensures made { Takes counted_structs (segment_row ctx.now.names.now) result walk.new
         (data_of (table_of ctx.now) (row_at segment 0 (object_of o.entry)) segment
         (row_at segment 0 (object_of o.entry)))
-        (walked counted_structs walk.old (begun "RouteBranch" ∷ ask_row (only_table (length (table_of ctx.now))) []
+        (walked counted_structs walk.old
+        (begun "RouteBranch" ∷ ask_row (only_table (length (table_of ctx.now))) []
         "RouteBranch" (row_at segment 0 (object_of o.entry)) segment
         (row_at segment 0 (object_of o.entry)))) }
     ensures named { IfOk result (λ s. (d : ℕ) → IsSegmentNamed ctx.now.names.now

@@ -51,8 +51,8 @@ push-requires c =
     let table = table_of c.args.ctx.now in
     depth_fits c.args.ctx.now.names.now table (only_table (length table)) (branches_said segment (elements_of c.args.l) endless) c.args.walk.now c.loop-top.stack.items c.pop.new.self.items c.in-Some.top c.loop-top.found c.loop-top.walk c.in-Some.ensures.items (rw c.len.ensures at c.if-top-len.true) c.loop-top.invariant.taken
 
-pub overflow_add-top-then-top-len : goal.overflow_add-top-then-top-len
-overflow_add-top-then-top-len c =
+pub overflow_add-top-then-len-gt0 : goal.overflow_add-top-then-len-gt0
+overflow_add-top-then-len-gt0 c =
     let table = table_of c.args.ctx.now in
     let whole = branches_said segment (elements_of c.args.l) endless in
     let deep : c.in-Some.top.depth ≤ length c.loop-top.found = depth_few c.args.ctx.now.names.now table (only_table (length table)) whole c.args.walk.now c.loop-top.stack.items c.pop.new.self.items c.in-Some.top c.loop-top.found c.loop-top.walk c.in-Some.ensures.items (rw c.len.ensures at c.if-top-len.true) c.loop-top.invariant.taken in
@@ -65,8 +65,8 @@ loop-top-smaller-in-Continue-branch-5 c =
     let table = table_of c.args.ctx.now in
     let whole = branches_said segment (elements_of c.args.l) endless in
     let after : Open = record { list = c.in-Some.top.list; next = c.in-Some.top.next + 1; depth = c.in-Some.top.depth } in
-    let below : Open = record { list = c.sound_list.result; next = 0; depth = c.in-Some.top.depth + 1 } in
-    let e : c.put-then-top-len-2.new.stack.items ≡ (c.pop.new.self.items ++ after ∷ []) ++ below ∷ [] = rw (c.in_ok-put-3.ensures, c.in_ok-put-2.ensures) refl in
+    let below : Open = record { list = c.sound_list-inner.result; next = 0; depth = c.in-Some.top.depth + 1 } in
+    let e : c.put-then-len-gt0.new.stack.items ≡ (c.pop.new.self.items ++ after ∷ []) ++ below ∷ [] = rw (c.in_ok-put-3.ensures, c.in_ok-put-2.ensures) refl in
     let one : length c.loop-top.stack.items ≡ length c.pop.new.self.items + 1 = rw c.in-Some.ensures.items (length-append c.pop.new.self.items (c.in-Some.top ∷ [])) in
     let two : length (c.pop.new.self.items ++ after ∷ []) ≡ length c.pop.new.self.items + 1 = length-append c.pop.new.self.items (after ∷ []) in
     let three : length ((c.pop.new.self.items ++ after ∷ []) ++ below ∷ []) ≡ length (c.pop.new.self.items ++ after ∷ []) + 1 = length-append (c.pop.new.self.items ++ after ∷ []) (below ∷ []) in
@@ -83,12 +83,46 @@ loop-top-preserved-in-Continue-branch-5 c =
     let whole = branches_said segment (elements_of c.args.l) endless in
     let x = c.in-Some.top in
     let after : Open = record { list = x.list; next = x.next + 1; depth = x.depth } in
-    let below : Open = record { list = c.sound_list.result; next = 0; depth = x.depth + 1 } in
-    let e : c.put-then-top-len-2.new.stack.items ≡ (c.pop.new.self.items ++ after ∷ []) ++ below ∷ [] = rw (c.in_ok-put-3.ensures, c.in_ok-put-2.ensures) refl in
+    let below : Open = record { list = c.sound_list-inner.result; next = 0; depth = x.depth + 1 } in
+    let e : c.put-then-len-gt0.new.stack.items ≡ (c.pop.new.self.items ++ after ∷ []) ++ below ∷ [] = rw (c.in_ok-put-3.ensures, c.in_ok-put-2.ensures) refl in
     let made = rw c.at-o.ensures at c.in_ok-segment.ensures.made in
     record {
       taken = rw (e, c.in_ok-push.ensures.ok) (goes_on names table lists whole c.args.walk.now c.loop-top.stack.items c.pop.new.self.items x after below c.loop-top.found c.loop-top.walk c.take_segment.new.walk c.in_ok-segment.segment c.in-Some.ensures.items (rw c.len.ensures at c.if-top-len.true)
-          refl (rw c.at-o.ensures at c.sound_list.ensures) refl refl made.0 made.1 c.loop-top.invariant.taken);
+          refl (rw c.at-o.ensures at c.sound_list-inner.ensures) refl refl made.0 made.1 c.loop-top.invariant.taken);
+      named = rw c.in_ok-push.ensures.ok (All-push (IsSegmentNamed names) c.loop-top.found _ c.loop-top.invariant.named (c.in_ok-segment.ensures.named x.depth));
+    }
+
+-- no list is below the branch
+pub loop-top-smaller-else-len-gt0 : goal.loop-top-smaller-else-len-gt0
+loop-top-smaller-else-len-gt0 c =
+    let table = table_of c.args.ctx.now in
+    let whole = branches_said segment (elements_of c.args.l) endless in
+    let after : Open = record { list = c.in-Some.top.list; next = c.in-Some.top.next + 1; depth = c.in-Some.top.depth } in
+    let e : c.put-then-top-len.new.stack.items ≡ c.pop.new.self.items ++ after ∷ [] = c.in_ok-put-2.ensures in
+    let one : length c.loop-top.stack.items ≡ length c.pop.new.self.items + 1 = rw c.in-Some.ensures.items (length-append c.pop.new.self.items (c.in-Some.top ∷ [])) in
+    let two : length (c.pop.new.self.items ++ after ∷ []) ≡ length c.pop.new.self.items + 1 = length-append c.pop.new.self.items (after ∷ []) in
+    let grown : length c.push.new.self ≡ length c.loop-top.found + 1 = rw c.in_ok-push.ensures.ok (length-append c.loop-top.found _) in
+    let room : length c.loop-top.found + 1 ≤ length (preorder 0 whole) = more c.args.ctx.now.names.now table (only_table (length table)) whole c.args.walk.now c.loop-top.stack.items c.pop.new.self.items c.in-Some.top c.loop-top.found c.loop-top.walk c.in-Some.ensures.items (rw c.len.ensures at c.if-top-len.true) c.loop-top.invariant.taken in
+    rw e (omega arith)
+
+pub loop-top-preserved-else-len-gt0 : goal.loop-top-preserved-else-len-gt0
+unfolding item_steps
+loop-top-preserved-else-len-gt0 c =
+    let names = c.args.ctx.now.names.now in
+    let table = table_of c.args.ctx.now in
+    let lists = only_table (length table) in
+    let whole = branches_said segment (elements_of c.args.l) endless in
+    let x = c.in-Some.top in
+    let ys = c.pop.new.self.items in
+    let after : Open = record { list = x.list; next = x.next + 1; depth = x.depth } in
+    let below : Open = record { list = c.sound_list-inner.result; next = 0; depth = x.depth + 1 } in
+    let e : c.put-then-top-len.new.stack.items ≡ ys ++ after ∷ [] = c.in_ok-put-2.ensures in
+    let made = rw c.at-o.ensures at c.in_ok-segment.ensures.made in
+    let both = goes_on names table lists whole c.args.walk.now c.loop-top.stack.items ys x after below c.loop-top.found c.loop-top.walk c.take_segment.new.walk c.in_ok-segment.segment c.in-Some.ensures.items (rw c.len.ensures at c.if-top-len.true)
+    refl (rw c.at-o.ensures at c.sound_list-inner.ensures) refl refl made.0 made.1 c.loop-top.invariant.taken in
+    let none : (elements_of c.sound_list-inner.result).count ≤ 0 = omega (arith, c.len-then-top-len.ensures) in
+    record {
+      taken = rw (e, c.in_ok-push.ensures.ok) (one_done names table lists whole c.args.walk.now ((ys ++ after ∷ []) ++ below ∷ []) (ys ++ after ∷ []) below _ c.take_segment.new.walk refl none both);
       named = rw c.in_ok-push.ensures.ok (All-push (IsSegmentNamed names) c.loop-top.found _ c.loop-top.invariant.named (c.in_ok-segment.ensures.named x.depth));
     }
 

@@ -1,5 +1,5 @@
 -- The structs of a list, as indexes ask them.
-use Rattle.std.proofs.Common.{◌≡◌, ℕ, zero, suc, ◌+◌, ◌<◌, ◌≤◌, List, [], ◌∷◌, length, map, get_or, Bool, true, false, refl, sym, ap, ◌∙◌, ◌^◌, arith}
+use Rattle.std.proofs.Common.{◌≡◌, ℕ, zero, suc, ◌+◌, ◌<◌, ◌≤◌, List, [], length, map, Bool, true, false, refl, sym, ap, ◌∙◌, ◌^◌, arith}
 use Rattle.std.specs.Prelude.{nat_lt, slice_index_or, if◌then◌else◌, ◌&&◌}
 use Rattle.std.proofs.lemmas.Bool.Decides.{nat_tests}
 use Rattle.std.proofs.lemmas.List.{length-map, get_or_past}
@@ -7,7 +7,7 @@ use Rattle.ix_frame.specs.Objects.{element_of}
 use Rattle.ix_frame.specs.Target.{Object, Elements}
 use Rattle.ix_message.specs.Indexes.{Entry, entry_of, entry_at, no_entry, has_number}
 use Rattle.ix_message.specs.Netlist.{cell_declaration}
-use Rattle.ix_message.specs.Shape.{Struct, Value}
+use Rattle.ix_message.specs.Shape.{Struct}
 use Rattle.ix_schema.specs.Said.{said, each_said}
 use Rattle.ix_logic_read.specs.Asking.{entries_said}
 use Rattle.ix_logic_read.specs.Pins.{AreHeld, ports_at, pin_number}

@@ -1,5 +1,5 @@
 -- The ports of declarations, each as one number with its declaration.
-use Rattle.std.proofs.Common.{◌≡◌, ℕ, zero, suc, ◌+◌, ◌*◌, ◌<◌, ◌≤◌, ◌^◌, List, [], ◌∷◌, ◌++◌, length, map, Bool, true, false, refl, sym, ap, ◌∙◌, arith}
+use Rattle.std.proofs.Common.{◌≡◌, ℕ, ◌+◌, ◌<◌, ◌^◌, List, [], ◌∷◌, ◌++◌, map, Bool, true, false, refl, ap, ◌∙◌, arith}
 use Rattle.std.specs.Prelude.{nat_lt, ◌&&◌, ◌||◌, ◌==◌}
 use Rattle.std.specs.List.{AllByRecursion}
 use Rattle.std.proofs.lemmas.Bool.{eq-eqb, eqb-true, eqb-false as ne_from, ne_eqb}
@@ -39,6 +39,7 @@ one_more_held n held l few h d p lt =
     last true true = refl
     last true false = refl
     last false b = refl
+
     go : (b : Bool) → (n == d) ≡ b → ((nat_lt d n && has_number (ports_at l d) p) || has_number (map (pin_number n) (ports_at l n)) (pin_number d p)) ≡ (nat_lt d (n + 1) && has_number (ports_at l d) p)
     go true h =
         let s : n ≡ d = eqb-true n d h in

@@ -1,5 +1,5 @@
 -- The steps of structs with lists, once their own fields fit.
-use Rattle.std.proofs.Common.{◌≡◌, ◌++◌, ◌∙◌, ℕ, List, [], ◌∷◌, map, length, true, Ok, refl, sym, ap, subst}
+use Rattle.std.proofs.Common.{◌≡◌, ◌++◌, ◌∙◌, ℕ, List, [], ◌∷◌, map, length, true, Ok, refl, ap, subst}
 use Rattle.std.specs.Prelude.{nat_lt}
 use Rattle.std.specs.List.{flat_map}
 use Rattle.std.proofs.lemmas.List.{append-nil}
@@ -12,7 +12,7 @@ use Rattle.ix_message.specs.Names.{Datum, record_of}
 use Rattle.ix_message.specs.Netlist.{entry, cell_instance, cell_declaration, net, cell, port, netlist}
 use Rattle.ix_message.specs.Reading.{row_at}
 use Rattle.ix_message.specs.Shape.{Struct, Text, Value}
-use Rattle.ix_schema.specs.Said.{said, parts_said, each_said}
+use Rattle.ix_schema.specs.Said.{said, each_said}
 use Rattle.ix_take.specs.Views.{Stops}
 use Rattle.ix_take.specs.Walked.{walked}
 use Rattle.ix_take.specs.declared.stop.Stop.{Stop}
@@ -100,3 +100,7 @@ took s to_record table lists mid found left l e is h = subst (λ (x : Elements).
 
 pub stuck : (e : Stop) (s : Struct) (lists : Lists) (mid : List ℕ) (l k : Elements) → l ≡ k → Stops netlist_structs e (walked netlist_structs mid (flat_map (steps s lists []) (list_said s l))) → Stops netlist_structs e (walked netlist_structs mid (each_asks s lists k))
 stuck e s lists mid l k is h = subst (λ (x : Elements). Stops netlist_structs e (walked netlist_structs mid (flat_map (steps s lists []) (list_said s x)))) is h
+
+pub root_said : (o : Object) → said netlist o ≡ ([], (sound_text o 0, (list_said entry (boxed_list o 1), (said cell_instance (sound_struct o 2), (list_said cell_declaration (sound_elements o 4), (list_said port (sound_elements o 5), (list_said cell_instance (sound_elements o 6), (list_said cell (sound_elements o 7), tt))))))))
+unfolding said row_at
+root_said o = refl

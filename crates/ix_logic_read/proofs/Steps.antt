@@ -1,14 +1,13 @@
 -- The steps of a logical netlist, struct by struct.
 use Prim.Native.String.{String}
-use Rattle.std.proofs.Common.{◌≡◌, ℕ, ◌+◌, ◌<◌, ◌≤◌, List, [], ◌∷◌, ◌++◌, length, map, Bool, true, false, Option, Some, None, Ok, refl, sym, ap, ◌∙◌, arith}
-use Rattle.std.specs.Prelude.{if◌then◌else◌, slice_index, slice_index_or, nat_lt, ◌==◌, ◌&&◌}
+use Rattle.std.proofs.Common.{◌≡◌, ℕ, List, [], ◌∷◌, length, Bool, true, false, Option, Some, None, refl}
+use Rattle.std.specs.Prelude.{slice_index, slice_index_or, ◌&&◌}
 use Rattle.std.specs.List.{flat_map, list_all}
 use Rattle.std.proofs.lemmas.Bool.{and_parts}
-use Rattle.std.proofs.lemmas.List.{append-nil}
-use Rattle.ix_message.specs.Indexes.{Step, Entry, Lists, begun, asked, ask_row, ask_all, fits, has_number, steps, part_steps, branch_steps, option_steps, lists_of, lengths_of, within, outwards}
+use Rattle.ix_message.specs.Indexes.{Step, Entry, Lists, ask_row, ask_all, fits, has_number, steps, part_steps, option_steps, lists_of, lengths_of, within}
 use Rattle.ix_message.specs.Names.{Datum, the_number, the_text}
-use Rattle.ix_message.specs.Netlist.{entry, cell_instance, cell_declaration, port_instance, net, cell, port}
-use Rattle.ix_message.specs.Shape.{Text, Field, Kind, Struct, Pointers, Value, Parts, field, number, flag, nothing, choice, name, index, port_of_owner, bus_tag, bus_bit, instance_of_cell, by_tag, site_of_tile, struct_of, no_more, text, texts, numbers, struct, struct_or_none, boxed, structs, branches, string_table, unread}
+use Rattle.ix_message.specs.Netlist.{port_instance, net, cell}
+use Rattle.ix_message.specs.Shape.{Field, Kind, Struct, Pointers, Value, Parts, number, flag, nothing, choice, name, index, port_of_owner, bus_tag, bus_bit, instance_of_cell, by_tag, site_of_tile, struct_of, no_more, text, texts, numbers, struct, struct_or_none, boxed, structs, branches, string_table, unread}
 
 pub flat_same : {A B : Type 0} (f g : A → List B) → ((x : A) → f x ≡ g x) → (xs : List A) → flat_map f xs ≡ flat_map g xs
 flat_same f g same [] = refl
@@ -75,6 +74,7 @@ option_same f g same (Some x) = same x
 
 mutual
   unfolding steps part_steps
+
   pub steps_anywhere : (s : Struct) (l : Lists) (a b : List Entry) (v : Value ℕ s) → plain_struct s ≡ true → steps s l a v ≡ steps s l b v
   steps_anywhere (struct_of kind fields ps) l a b v h =
       let two = and_parts (list_all has_plain_kind fields) (plain_parts ps) h in

@@ -1,13 +1,12 @@
 -- The texts of a netlist and their numbers.
-use Rattle.std.proofs.Common.{◌≡◌, ◌<◌, ◌+◌, ◌∙◌, ℕ, zero, suc, arith, List, [], ◌∷◌, ◌++◌, map, length, take, slice_get, refl, ap}
-use Rattle.std.specs.Prelude.{Some, Result, Ok, Err}
+use Rattle.std.proofs.Common.{◌≡◌, ◌<◌, ◌+◌, ℕ, zero, suc, List, [], ◌∷◌, ◌++◌, map, length, refl, ap}
+use Rattle.std.specs.Prelude.{Result, Ok, Err}
 use Rattle.std.specs.List.{All, flat_map}
-use Rattle.std.proofs.lemmas.List.{take_more}
 use Rattle.std.proofs.lemmas.List.Elements.{All-nil, All-cons}
 use Rattle.std.proofs.lemmas.Option.{slice_get_within, get_or_from_slice_get}
 use Rattle.ix_device_read.specs.Adding.{texts_in, AddsExactly}
 use Rattle.ix_device_read.specs.Loose.{loose_texts, loose_parts, with_names, AreNumbersOf}
-use Rattle.ix_frame.specs.Sound.{sound_text, sound_text_in}
+use Rattle.ix_frame.specs.Sound.{sound_text}
 use Rattle.ix_frame.specs.Target.{Object, Elements}
 use Rattle.ix_message.specs.Netlist.{entry, cell_instance, cell_declaration, port_instance, net, cell, port, netlist}
 use Rattle.ix_message.specs.Shape.{Text, Value}

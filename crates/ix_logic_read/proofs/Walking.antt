@@ -1,10 +1,10 @@
 -- Lists of indexes that are asked, and what stops them.
 use Prim.Native.String.{String}
-use Rattle.std.proofs.Common.{◌≡◌, ℕ, ◌-◌, List, [], ◌∷◌, ◌++◌, map, Bool, true, false, Ok, Err, refl, sym, ap, ◌∙◌, subst}
+use Rattle.std.proofs.Common.{◌≡◌, ℕ, ◌-◌, List, [], ◌∷◌, map, Bool, true, false, Ok, Err, refl, sym, ◌∙◌, subst}
 use Rattle.std.specs.Prelude.{codes, nat_lt, slice_index, ◌&&◌}
 use Rattle.std.specs.List.{list_all}
 use Rattle.ix_device_read.specs.Finish.{place_of, field_at}
-use Rattle.ix_message.specs.Indexes.{Step, begun, asked}
+use Rattle.ix_message.specs.Indexes.{Step, asked}
 use Rattle.ix_message.specs.Shape.{Struct}
 use Rattle.ix_take.specs.Views.{AskedEach, Stops, kind_word, field_word}
 use Rattle.ix_take.specs.Walked.{kinds_of, walked}

@@ -1,13 +1,13 @@
 -- What the numbers of a netlist's structs are asked against, and what its readers hold of it.
-use Rattle.std.specs.Prelude.{ℕ, ◌%◌, ◌^◌, List, [], ◌∷◌, Bool, length, map}
+use Rattle.std.specs.Prelude.{ℕ, ◌%◌, ◌^◌, List, [], ◌∷◌, length, map}
 use Rattle.ix_frame.specs.Objects.{u32_in}
 use Rattle.ix_frame.specs.Sound.{sound_elements, sound_struct}
 use Rattle.ix_frame.specs.Target.{Object, Elements}
 use Rattle.ix_frame.specs.Views.{elements_of}
-use Rattle.ix_message.specs.Indexes.{Entry, Lists, Step, entry_of, fits, no_entry, only_table, steps}
+use Rattle.ix_message.specs.Indexes.{Entry, Lists, Step, entry_of, no_entry, only_table, steps}
 use Rattle.ix_message.specs.Names.{Datum, record_of}
 use Rattle.ix_message.specs.Netlist.{cell_declaration, cell_instance, netlist, port}
-use Rattle.ix_message.specs.Shape.{Kind, Struct, Text, Value}
+use Rattle.ix_message.specs.Shape.{Struct, Value}
 use Rattle.ix_schema.specs.Said.{said, each_said}
 use Rattle.ix_take.specs.Views.{table_of}
 use Rattle.ix_logic_read.specs.declared.context.NetlistContext.{NetlistContext}

@@ -1,5 +1,5 @@
 -- The steps of structs with lists, once their own fields fit.
-use Rattle.std.proofs.Common.{◌≡◌, ◌<◌, ◌%◌, ◌^◌, ◌++◌, ◌∙◌, ℕ, List, [], ◌∷◌, map, true, Ok, refl, sym, ap, subst, length}
+use Rattle.std.proofs.Common.{◌≡◌, ◌%◌, ◌^◌, ◌++◌, ◌∙◌, ℕ, List, [], ◌∷◌, map, true, Ok, refl, ap, subst}
 use Rattle.std.specs.Prelude.{nat_lt}
 use Rattle.std.specs.List.{flat_map}
 use Rattle.ix_device_read.specs.Finish.{with_one_more}
@@ -11,7 +11,7 @@ use Rattle.ix_message.specs.Names.{Datum, record_of}
 use Rattle.ix_message.specs.Phys.{pin_mapping, cell_placement, phys_net, site_instance, property, phys_netlist, segment}
 use Rattle.ix_message.specs.Reading.{row_at}
 use Rattle.ix_message.specs.Shape.{Text, Struct, Value}
-use Rattle.ix_schema.specs.Said.{said, parts_said, each_said, branches_said}
+use Rattle.ix_schema.specs.Said.{said, each_said, branches_said}
 use Rattle.ix_take.specs.Views.{Stops}
 use Rattle.ix_take.specs.Walked.{walked}
 use Rattle.ix_phys_read.specs.Walked.{counted_structs}

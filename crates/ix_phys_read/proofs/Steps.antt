@@ -1,17 +1,13 @@
 -- The steps of a physical netlist, struct by struct, and that counting them as the code does finds the first bad field.
 use Prim.Native.String.{String}
-use Rattle.std.proofs.Common.{◌≡◌, ℕ, zero, suc, ◌+◌, ◌-◌, ◌^◌, ◌<◌, ◌≤◌, List, [], ◌∷◌, ◌++◌, length, replicate, Bool, true, false, cond, Option, Some, None, Result, Ok, Err, refl, sym, ap, ◌∙◌, subst, arith, eq-eqb, append_assoc}
-use Rattle.std.specs.Prelude.{codes, min, if◌then◌else◌, slice_index, ◌==◌, ◌&&◌}
-use Rattle.std.specs.List.{AllByRecursion, count_by, flat_map, list_all}
-use Rattle.std.proofs.lemmas.Bool.{both_ways, and_parts, eqb-true}
-use Rattle.std.proofs.lemmas.List.{append-nil, length-set, length-append, get_or-set_same, get_or-set_other}
-use Rattle.std.proofs.lemmas.List.Sums.{sum_by_push, count_by-le-length}
-use Rattle.ix_frame.specs.Result.{◌>>=◌}
-use Rattle.ix_message.specs.Indexes.{Item, Step, Entry, Lists, begun, asked, ask_row, fits, begins, first_unfit, steps, part_steps, branch_steps, lists_of, lengths_of}
-use Rattle.ix_message.specs.Names.{same_text}
+use Rattle.std.proofs.Common.{◌≡◌, ℕ, ◌+◌, List, [], ◌∷◌, ◌++◌, length, Bool, true, false, refl, sym, ap, ◌∙◌, arith, append_assoc}
+use Rattle.std.specs.Prelude.{◌&&◌}
+use Rattle.std.specs.List.{flat_map, list_all}
+use Rattle.std.proofs.lemmas.Bool.{and_parts}
+use Rattle.std.proofs.lemmas.List.{append-nil}
+use Rattle.ix_message.specs.Indexes.{Step, Entry, Lists, begun, asked, ask_row, fits, steps, part_steps, branch_steps}
 use Rattle.ix_message.specs.Phys.{pin_mapping, cell_placement, phys_net, site_instance, property, phys_netlist, segment}
-use Rattle.ix_message.specs.Shape.{Text, Field, Kind, Struct, Pointers, Branches, Value, Parts, field, flag, nothing, choice, name, by_tag, struct_of, no_more, ends, branch, preorder}
-use Rattle.ix_device_read.specs.Finish.{place_of, with_one_more, field_at}
+use Rattle.ix_message.specs.Shape.{Text, Field, Kind, Struct, Branches, Value, flag, nothing, choice, name, by_tag, struct_of, ends, branch, preorder}
 use Rattle.ix_take.specs.Walked.{kinds_of, begun_in}
 use Rattle.ix_take.specs.Walks.{has_kind, AreOfKinds}
 use Rattle.ix_phys_read.specs.Walked.{counted_structs}

@@ -1,9 +1,9 @@
 -- From the walk over a whole netlist to what its reading tells.
-use Rattle.std.proofs.Common.{◌≡◌, ◌≤◌, ◌+◌, ◌^◌, ◌-◌, ◌∙◌, ℕ, List, [], ◌∷◌, length, replicate, Option, Some, None, Result, Ok, Err, refl, sym, ap, subst, arith}
+use Rattle.std.proofs.Common.{◌≡◌, ◌∙◌, ℕ, List, [], length, replicate, Option, Result, Ok, Err, refl, sym, ap, subst, arith}
 use Rattle.ix_device_read.specs.Reading.{reading_in_segments, record_unless_bad, IsBadField, IsReading, Refuses, FileReads}
 use Rattle.ix_frame.specs.Segments.{Segments}
 use Rattle.ix_frame.specs.Target.{Object}
-use Rattle.ix_message.specs.Indexes.{Item, Lists, only_table, steps, first_bad, first_unfit}
+use Rattle.ix_message.specs.Indexes.{Item, only_table, steps, first_bad}
 use Rattle.ix_message.specs.Message.{Unread, frame, out_of_list, unless_bad, numbers_in_segments, reading}
 use Rattle.ix_message.specs.Names.{Datum, record_of}
 use Rattle.ix_message.specs.Phys.{phys_netlist}
@@ -22,7 +22,7 @@ use Rattle.ix_phys_read.specs.Views.{IsFieldAt, TellsField}
 use Rattle.ix_take.specs.Walked.{walked}
 use Rattle.ix_phys_read.specs.Walked.{counted_structs}
 use Rattle.ix_phys_read.proofs.Counted.{root_kinds}
-use Rattle.ix_phys_read.proofs.Rows.{root_said, list_said}
+use Rattle.ix_phys_read.proofs.Rows.{root_said}
 use Rattle.ix_take.specs.Walks.{AreOfKinds, FindsFirst, stopped}
 
 -- what a message reads as, by its numbers

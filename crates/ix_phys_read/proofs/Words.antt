@@ -1,5 +1,5 @@
 -- The names of structs and fields, by the table and by the kinds that are counted.
-use Rattle.std.proofs.Common.{◌≡◌, ◌≤◌, ◌∙◌, ℕ, zero, suc, [], refl, ap, arith}
+use Rattle.std.proofs.Common.{◌≡◌, ◌≤◌, ℕ, zero, suc, [], refl, arith}
 use Rattle.ix_schema.specs.Named.{kind_text, field_text}
 use Rattle.ix_schema.specs.Structs.{phys_structs}
 use Rattle.ix_take.specs.Views.{kind_word, field_word}

@@ -1,10 +1,10 @@
 -- Taking the structs of a list one after the other.
-use Rattle.std.proofs.Common.{◌≡◌, ◌≤◌, ◌<◌, ◌+◌, ◌-◌, ◌++◌, ◌∙◌, ℕ, zero, suc, List, [], ◌∷◌, map, Result, Ok, Err, refl, sym, ap, arith, append_assoc}
+use Rattle.std.proofs.Common.{◌≡◌, ◌≤◌, ◌<◌, ◌+◌, ◌-◌, ◌++◌, ◌∙◌, ℕ, suc, List, [], ◌∷◌, map, Ok, refl, sym, ap, arith, append_assoc}
 use Rattle.std.specs.List.{flat_map}
 use Rattle.std.proofs.lemmas.List.{append-nil, map_push}
 use Rattle.ix_frame.specs.Objects.{element_of}
 use Rattle.ix_frame.specs.Target.{Object, Elements}
-use Rattle.ix_message.specs.Indexes.{Item, Step}
+use Rattle.ix_message.specs.Indexes.{Step}
 use Rattle.ix_schema.specs.Said.{each_said}
 use Rattle.ix_take.specs.Views.{Stops}
 use Rattle.ix_take.specs.Walked.{walked}

@@ -1,9 +1,9 @@
-use Rattle.std.proofs.Common.{◌≡◌, ◌+◌, ◌++◌, ◌<◌, ◌^◌, List, ℕ, map, ap, subst, sym}
+use Rattle.std.proofs.Common.{◌≡◌, ◌<◌, ◌^◌, List, ℕ, ap, subst}
 use Rattle.std.specs.List.{AllByRecursion}
 use Rattle.ix_frame.specs.Objects.{numbers_in}
 use Rattle.ix_frame.specs.Sound.{sound_list}
 use Rattle.ix_frame.specs.Views.{elements_of, numbers_of, object_of}
-use Rattle.ix_logic_read.specs.Pins.{AreHeldUpTo, ports_at, pin_number}
+use Rattle.ix_logic_read.specs.Pins.{ports_at}
 use Rattle.ix_logic_read.proofs.Holding.{one_more_held}
 use Rattle.ix_logic_read.proofs.pins.held_by.Goals as goal
 

@@ -1,4 +1,3 @@
-use Rattle.std.proofs.Common.{◌≡◌}
 use Rattle.ix_frame.specs.Views.{elements_of}
 use Rattle.ix_logic_read.specs.Pins.{AreHeldUpTo}
 use Rattle.ix_logic_read.proofs.pins.held_by.Given as goal

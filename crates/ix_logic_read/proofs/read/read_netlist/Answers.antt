@@ -10,7 +10,7 @@ use Rattle.ix_message_write.specs.Table.{name_text}
 use Rattle.ix_logic_read.specs.Record.{netlist_record}
 use Rattle.ix_schema.specs.Said.{said, table_said}
 use Rattle.ix_logic_read.proofs.Texts.{texts_again, are_names, loose_name, none_added, all_added}
-use Rattle.ix_logic_read.proofs.Told.{of_numbers}
+use Rattle.ix_logic_read.proofs.Telling.{of_numbers}
 use Rattle.ix_logic_read.proofs.read.read_netlist.Goals as goal
 
 pub returns-in-Err-clause-adds : goal.returns-in-Err-clause-adds

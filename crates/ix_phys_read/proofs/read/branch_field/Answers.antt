@@ -1,4 +1,4 @@
-use Rattle.std.proofs.Common.{◌≡◌, ◌≤◌, ◌<◌, ◌∙◌, refl, sym, arith}
+use Rattle.std.proofs.Common.{◌≤◌, refl, sym, arith}
 use Rattle.ix_take.specs.Views.{field_word}
 use Rattle.ix_phys_read.proofs.Words.{no_field}
 use Rattle.ix_phys_read.proofs.read.branch_field.Goals as goal

@@ -1,4 +1,3 @@
-use Rattle.std.proofs.Common.{[], length}
 use Rattle.std.specs.List.{All}
 use Rattle.ix_frame.specs.Views.{elements_of}
 use Rattle.ix_schema.specs.Said.{said}

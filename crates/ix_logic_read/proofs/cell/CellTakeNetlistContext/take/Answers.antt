@@ -1,16 +1,15 @@
-use Rattle.std.proofs.Common.{◌≡◌, ◌∙◌, ◌++◌, List, ℕ, [], ◌∷◌, Ok, length, map, refl, ap, sym, subst}
+use Rattle.std.proofs.Common.{◌≡◌, ◌∙◌, List, ℕ, [], ◌∷◌, Ok, length, map, refl, ap, sym, subst}
 use Rattle.std.specs.List.{flat_map}
 use Rattle.std.proofs.lemmas.Result.{err_from_is_err_and}
 use Rattle.ix_frame.specs.Objects.{numbers_in}
 use Rattle.ix_frame.specs.Sound.{sound_list, sound_elements}
 use Rattle.ix_frame.specs.Target.{Elements}
-use Rattle.ix_frame.specs.Views.{object_of, numbers_of, elements_of}
+use Rattle.ix_frame.specs.Views.{object_of, numbers_of}
 use Rattle.ix_message.specs.Indexes.{Entry, has_number, steps}
 use Rattle.ix_message.specs.Names.{record_of}
-use Rattle.ix_message.specs.Netlist.{cell, net}
+use Rattle.ix_message.specs.Netlist.{net}
 use Rattle.ix_message.specs.Reading.{row_at}
-use Rattle.ix_message.specs.Shape.{Value}
-use Rattle.ix_schema.specs.Said.{said, each_said}
+use Rattle.ix_schema.specs.Said.{said}
 use Rattle.ix_take.specs.Going.{stops_first, walked_then}
 use Rattle.ix_take.specs.Views.{Stops, kind_word, field_word, table_of}
 use Rattle.ix_take.specs.Walked.{walked}

@@ -1,4 +1,4 @@
-use Rattle.std.proofs.Common.{◌≡◌, ◌<◌, ◌∙◌, ℕ, sym, ap, subst, arith}
+use Rattle.std.proofs.Common.{◌<◌, ◌∙◌, ℕ, sym, ap, subst}
 use Rattle.std.specs.Prelude.{slice_index}
 use Rattle.ix_frame.specs.Views.{elements_of}
 use Rattle.ix_message.specs.Indexes.{Entry}

@@ -1,4 +1,4 @@
-use Rattle.std.proofs.Common.{◌≡◌, ◌∙◌, ◌+◌, ◌*◌, ◌^◌, ◌<◌, arith}
+use Rattle.std.proofs.Common.{◌∙◌, ◌^◌, ◌<◌}
 use Rattle.ix_frame.specs.Views.{elements_of}
 use Rattle.ix_logic_read.specs.Asking.{lists_in}
 use Rattle.ix_logic_read.proofs.Entries.{held_there}

@@ -1,4 +1,4 @@
-use Rattle.std.proofs.Common.{◌≡◌, ◌∙◌, sym}
+use Rattle.std.proofs.Common.{◌∙◌, sym}
 use Rattle.ix_frame.specs.Views.{elements_of}
 use Rattle.ix_message.specs.Netlist.{cell_instance}
 use Rattle.ix_logic_read.specs.Asking.{lists_in}

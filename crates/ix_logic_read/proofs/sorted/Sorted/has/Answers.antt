@@ -1,4 +1,4 @@
-use Rattle.std.proofs.Common.{◌≡◌, ◌∙◌, refl}
+use Rattle.std.proofs.Common.{◌∙◌, refl}
 use Rattle.std.proofs.lemmas.List.Sorted.{searched}
 use Rattle.ix_logic_read.proofs.Lookup.{has_from_search}
 use Rattle.ix_logic_read.proofs.sorted.Sorted.has.Goals as goal

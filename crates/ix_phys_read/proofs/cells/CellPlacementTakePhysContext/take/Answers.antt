@@ -8,7 +8,6 @@ use Rattle.ix_message.specs.Reading.{row_at}
 use Rattle.ix_phys_write.specs.Record.{pin_mapping_record}
 use Rattle.ix_schema.specs.Said.{said}
 use Rattle.ix_take.specs.Views.{table_of}
-use Rattle.ix_phys_read.specs.Walked.{counted_structs}
 use Rattle.ix_phys_read.proofs.Rows.{placement_walk, took, stuck}
 use Rattle.ix_phys_read.proofs.cells.CellPlacementTakePhysContext.take.Goals as goal
 

@@ -1,16 +1,15 @@
-use Rattle.std.proofs.Common.{◌≡◌, ◌∙◌, List, length, map, refl, sym, ap, subst}
+use Rattle.std.proofs.Common.{◌∙◌, length, refl, sym, subst}
 use Rattle.std.proofs.lemmas.Result.{err_from_is_err_and}
 use Rattle.ix_frame.specs.Sound.{endless}
 use Rattle.ix_frame.specs.Target.{Elements}
 use Rattle.ix_frame.specs.Views.{object_of}
-use Rattle.ix_message.specs.Indexes.{only_table, branch_steps}
+use Rattle.ix_message.specs.Indexes.{only_table}
 use Rattle.ix_message.specs.Names.{record_of}
 use Rattle.ix_message.specs.Phys.{segment}
 use Rattle.ix_message.specs.Reading.{row_at}
 use Rattle.ix_schema.specs.Said.{said, branches_said}
 use Rattle.ix_phys_read.specs.Sound.{AreSound}
 use Rattle.ix_take.specs.Views.{table_of}
-use Rattle.ix_take.specs.Walked.{walked}
 use Rattle.ix_phys_read.specs.Walked.{counted_structs}
 use Rattle.ix_phys_read.proofs.NetTrees.{net_trees}
 use Rattle.ix_phys_read.proofs.Rows.{net_walk}

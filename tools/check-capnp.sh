@@ -74,16 +74,16 @@ encode_design() { # NAME CHECK WORDS.., the message as text on standard input
     capnp encode "$schema" Netlist <text >whole || { failed=$((failed + 1)); return; }
     capnp decode --quiet "$schema" Netlist <whole >wanted
     record=$("$top/tools/logic_cases.py" tell whole)
-    try() { # WAY
+    check_way() { # WAY
         check_record "$name$1" "$record"
         "$also" "$name$1" "${@:2}"
     }
     cp whole design
-    try "" "$@"
+    check_way "" "$@"
     # This encoder begins a new segment where an object doesn't fit the last one.
     for words in 1 2 3 5 8 13; do
         capnp encode --segment-size=$words "$schema" Netlist <text >design
-        try ", segments of $words words" "$@"
+        check_way ", segments of $words words" "$@"
     done
     # Cap'n Proto's own reader takes at most 511 segments.
     for mode in one two mixed near; do
@@ -93,7 +93,7 @@ encode_design() { # NAME CHECK WORDS.., the message as text on standard input
                 echo "check-capnp: $name: $segments segments, pads '$mode': capnp reads another message"
                 failed=$((failed + 1))
             fi
-            try ", $segments segments, pads '$mode'" "$@"
+            check_way ", $segments segments, pads '$mode'" "$@"
         done
     done
 }
@@ -127,17 +127,20 @@ design "a property" 9 "$unbuilt_line" <<'END'
 END
 
 # Three levels, with buses, and properties of each kind.
-ports='(name = 1, dir = 0, kind = 1, busStart = 3), (name = 2, dir = 1), (name = 1, dir = 2), (name = 2, dir = 1, kind = 1, busEnd = 1,
-    propMap = (entries = [(key = 7, tag = 1, value = 9)]))'
-cells='(index = 0, insts = [0, 1], nets = [(name = 5, portInsts = [(port = 0, busTag = 1, idx = 3), (port = 2, ownerTag = 1, inst = 1)]),
-    (name = 6, portInsts = [(port = 1)])]), (index = 1, insts = [2], nets = [(name = 5, portInsts = [(port = 2),
-    (port = 3, busTag = 1, idx = BIT, ownerTag = 1, inst = INST)])])'
+texts='"top", "a", "z", "block", "leaf", "n0", "n1", "INIT", "4'"'"'h6"'
+ports='(name = 1, dir = 0, kind = 1, busStart = 3), (name = 2, dir = 1), (name = 1, dir = 2),
+    (name = 2, dir = 1, kind = 1, busEnd = 1, propMap = (entries = [(key = 7, tag = 1, value = 9)]))'
+cells='(index = 0, insts = [0, 1], nets = [
+    (name = 5, portInsts = [(port = 0, busTag = 1, idx = 3), (port = 2, ownerTag = 1, inst = 1)]),
+    (name = 6, portInsts = [(port = 1)])]),
+    (index = 1, insts = [2], nets = [
+    (name = 5, portInsts = [(port = 2), (port = 3, busTag = 1, idx = BIT, ownerTag = 1, inst = INST)])])'
 levels() { # BIT INST
     local found=${cells/BIT/$1}
-    echo "(name = \"three levels\", strList = [\"top\", \"a\", \"z\", \"block\", \"leaf\", \"n0\", \"n1\", \"INIT\", \"4'h6\"]," \
+    echo "(name = \"three levels\", strList = [$texts], topInst = (name = 0, cell = 0)," \
         "propMap = (entries = [(key = 7, value = 8), (key = 8, tag = 2, value = 1), (key = 7, tag = 1, value = 4294967295)])," \
-        "topInst = (name = 0, cell = 0), cellDecls = [(name = 0, ports = [0, 1]), (name = 3, ports = [2]), (name = 4, ports = [3])]," \
-        "portList = [$ports], instList = [(name = 1, cell = 1), (name = 2, cell = 1, propMap = (entries = [(key = 7, value = 8)]))," \
+        "cellDecls = [(name = 0, ports = [0, 1]), (name = 3, ports = [2]), (name = 4, ports = [3])], portList = [$ports]," \
+        "instList = [(name = 1, cell = 1), (name = 2, cell = 1, propMap = (entries = [(key = 7, value = 8)]))," \
         "(name = 1, cell = 2), (name = 2, cell = 2)], cellList = [${found/INST/$2}])"
 }
 netlist "three levels" < <(levels 1 2)

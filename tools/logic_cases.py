@@ -267,44 +267,54 @@ def with_two_faults(base):
     yield "the string table comes before the name", early + table, f"F5 at {base.place('Netlist', 'strList', 0)}"
 
 
+def keyed(*entries):
+    """A netlist of one declaration with these properties."""
+    return {"strList": ["k"], "cellDecls": [{}], "propMap": {"entries": list(entries)}}
+
+
+def joined(value, *pins, **cell):
+    """The netlist with one more cell, whose one net joins these pins."""
+    return dict(value, cellList=value.get("cellList", []) + [dict(cell, nets=[{"portInsts": list(pins)}])])
+
+
 def small_ones():
     """Netlists of few structs, as text: what each shows, its names before, its text and what is told if it is a fault."""
+    one = {"strList": ["top"], "cellDecls": [{}]}
     yield "nothing at all", "", {"strList": []}, "I1 at CellInstance.name 0"
     yield "a string and no declaration", "", {"strList": ["top"]}, "I1 at CellInstance.cell 0"
     yield "a declaration and no string", "", {"strList": [], "cellDecls": [{}]}, "I1 at CellInstance.name 0"
-    yield "a string and a declaration", "", {"strList": ["top"], "cellDecls": [{}]}, None
+    yield "a string and a declaration", "", one, None
     yield "an empty text", "", {"strList": [""], "cellDecls": [{}], "name": ""}, None
-    yield "the name is one of the texts", "", {"strList": ["top", "x"], "cellDecls": [{}], "name": "x"}, None
-    yield "names that are there keep their numbers", "x leaf top", {"strList": ["top", "n", "x"], "cellDecls": [{}], "name": "d"}, None
-    yield "the name is there before", "d", {"strList": ["top", "n"], "cellDecls": [{}], "name": "d"}, None
-    yield "two entries of the table have one text", "", {"strList": ["top", "x", "top"], "topInst": {"name": 2}, "cellDecls": [{"name": 0}, {"name": 1}]}, None
-    yield "only a text value of a property uses a string number", "", \
-        {"strList": ["k"], "cellDecls": [{}], "propMap": {"entries": [entry("k", 1, 1), entry("k", 2, 3)]}}, None
-    yield "a text value uses it", "", \
-        {"strList": ["k"], "cellDecls": [{}], "propMap": {"entries": [entry("k", 1, 1), entry("k", 0, 1)]}}, "I1 at Entry.value 1"
-    yield "several properties of one key are kept", "", \
-        {"strList": ["k"], "cellDecls": [{}], "propMap": {"entries": [entry("k", 1, MOST), entry("k", 1, 0), entry("k", 1, 7)]}}, None
-    yield "of a Bool only the lowest bit is looked at", "", \
-        {"strList": ["k"], "cellDecls": [{}], "propMap": {"entries": [entry("k", 0x50002, MOST - 1), entry("k", 2, 3)]}}, None
-    yield "of an enumerant only the low half is looked at", "", \
-        {"strList": ["p"], "cellDecls": [{}], "portList": [{"dir": 0x70002, "kind": 0x80001}]}, None
-    wide = {"strList": ["top", "w"], "cellDecls": [{"ports": [0]}], "portList": [{"name": "w", "kind": 1, "busEnd": MOST}]}
-    yield "the widest bus", "", dict(wide, cellList=[{"nets": [{"portInsts": [pin(0, None, MOST)]}]}]), None
-    yield "a declaration without ports has none", "", dict(wide, cellDecls=[{}], cellList=[{"nets": [{"portInsts": [pin(0, None, 0)]}]}]), \
-        "I1 at PortInstance.port 0"
-    yield "a port twice in a declaration", "", dict(wide, cellDecls=[{"ports": [0, 0]}], cellList=[{"nets": [{"portInsts": [pin(0, None, 5)]}]}]), None
-    yield "a cell that contains itself", "", {"strList": ["top"], "cellDecls": [{}], "instList": [{}], "cellList": [{"insts": [0, 0]}]}, None
-    yield "two cells of one declaration", "", {"strList": ["top"], "cellDecls": [{}], "cellList": [{}, {}]}, None
-    yield "an instance of two cells", "", {"strList": ["top"], "cellDecls": [{}, {}], "instList": [{"cell": 1}], "cellList": [
-        {"insts": [0]}, {"index": 1, "insts": [0]}]}, None
-    unsorted = {"strList": ["t"], "cellDecls": [{"ports": []}, {"ports": [2, 0, 1]}], "portList": [{}, {}, {}],
-                "instList": [{"cell": 1}] * 3}
+    yield "the name is one of the texts", "", dict(one, strList=["top", "x"], name="x"), None
+    yield "names that are there keep their numbers", "x leaf top", dict(one, strList=["top", "n", "x"], name="d"), None
+    yield "the name is there before", "d", dict(one, strList=["top", "n"], name="d"), None
+    twice = {"strList": ["top", "x", "top"], "topInst": {"name": 2}, "cellDecls": [{"name": 0}, {"name": 1}]}
+    yield "two entries of the table have one text", "", twice, None
+    unused = keyed(entry("k", 1, 1), entry("k", 2, 3))
+    yield "only a text value of a property uses a string number", "", unused, None
+    yield "a text value uses it", "", keyed(entry("k", 1, 1), entry("k", 0, 1)), "I1 at Entry.value 1"
+    several = keyed(entry("k", 1, MOST), entry("k", 1, 0), entry("k", 1, 7))
+    yield "several properties of one key are kept", "", several, None
+    low = keyed(entry("k", 0x50002, MOST - 1), entry("k", 2, 3))
+    yield "of a Bool only the lowest bit is looked at, of a tag the low half", "", low, None
+    low = dict(one, portList=[{"dir": 0x70002, "kind": 0x80001}])
+    yield "of an enumerant only the low half is looked at", "", low, None
+    wide = dict(one, cellDecls=[{"ports": [0]}], portList=[{"kind": 1, "busEnd": MOST}])
+    yield "the widest bus", "", joined(wide, pin(0, None, MOST)), None
+    bare = dict(wide, cellDecls=[{}])
+    yield "a declaration without ports has none", "", joined(bare, pin(0, None, 0)), "I1 at PortInstance.port 0"
+    again = dict(wide, cellDecls=[{"ports": [0, 0]}])
+    yield "a port twice in a declaration", "", joined(again, pin(0, None, 5)), None
+    yield "a cell that contains itself", "", dict(one, instList=[{}], cellList=[{"insts": [0, 0]}]), None
+    yield "two cells of one declaration", "", dict(one, cellList=[{}, {}]), None
+    shared = dict(one, cellDecls=[{}, {}], instList=[{"cell": 1}], cellList=[{"insts": [0]}, {"index": 1, "insts": [0]}])
+    yield "an instance of two cells", "", shared, None
+    mixed = dict(one, cellDecls=[{}, {"ports": [2, 0, 1]}], portList=[{}] * 3, instList=[{"cell": 1}] * 3)
     every = [pin(port, inst) for inst in (0, 2, 1) for port in (0, 1, 2)]
-    yield "ports and instances in any order", "", dict(unsorted, cellList=[{"insts": [2, 0, 1], "nets": [{"portInsts": every}]}]), None
-    yield "an instance between two of the cell's", "", dict(unsorted, cellList=[{"insts": [2, 0], "nets": [{"portInsts": every}]}]), \
-        "I1 at PortInstance.inst 6"
-    yield "an instance of the cell before", "", dict(unsorted, cellList=[{"insts": [1]}, {"insts": [2, 0], "nets": [
-        {"portInsts": [pin(0, 1)]}]}]), "I1 at PortInstance.inst 0"
+    yield "ports and instances in any order", "", joined(mixed, *every, insts=[2, 0, 1]), None
+    yield "an instance between two of the cell's", "", joined(mixed, *every, insts=[2, 0]), "I1 at PortInstance.inst 6"
+    before = joined(dict(mixed, cellList=[{"insts": [1]}]), pin(0, 1), insts=[2, 0])
+    yield "an instance of the cell before", "", before, "I1 at PortInstance.inst 0"
 
 
 def split(file, segments, mode):

@@ -76,7 +76,7 @@ fn number_at(list: &List, i: u32) -> u32 {
 }
 
 /// The numbers of a list, each asked by a function.
-fn numbers<'a>(
+pub fn numbers<'a>(
     o: &Obj<'a>,
     slot: u32,
     c: &mut Context<'a>,

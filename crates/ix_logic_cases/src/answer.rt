@@ -1,12 +1,19 @@
 //! The answer to a case.
 
-use crate::told::put_netlist;
+use crate::changes::{apply_changes, names_of};
+use crate::summary::{put_counts, put_names, put_netlist};
 use ix_cases::{bytes_of, field};
 use ix_frame::Frame;
 use ix_logic_read::read_netlist;
 use ix_rec::{NetlistRec, Place, ReadFault};
 use ix_strings::Names;
 use std::alloc::{AllocError, Global};
+
+/// The most bytes that a file may have.
+const MOST_BYTES: usize = 1 << 30;
+
+/// The most names that there may be before a netlist is read.
+const MOST_NAMES: u32 = 1 << 30;
 
 /// Writes a fault.
 fn put_fault(text: &mut String, fault: &ReadFault) -> Result<(), AllocError> {
@@ -20,9 +27,9 @@ fn put_fault(text: &mut String, fault: &ReadFault) -> Result<(), AllocError> {
     }
 }
 
-/// Reads a file into no names.
+/// Reads a file, where it is short enough and there are few enough names.
 fn read(alloc: Global, file: &[u8], names: &mut Names) -> Result<NetlistRec, ReadFault> {
-    if 1 << 30 < file.len() || 1 << 30 < names.len() {
+    if MOST_BYTES < file.len() || MOST_NAMES < names.len() {
         return Err(ReadFault::Memory);
     }
     match Frame::open(file) {
@@ -31,16 +38,43 @@ fn read(alloc: Global, file: &[u8], names: &mut Names) -> Result<NetlistRec, Rea
     }
 }
 
-/// The answer to a case, after what it shows.
-pub fn answer_to(alloc: Global, line: &str) -> Result<String, AllocError> {
+/// A file's netlist or its fault in words: all that a netlist says and the names, or how long its
+/// lists are.
+pub fn told_of(
+    alloc: Global,
+    file: &[u8],
+    names: &mut Names,
+    whole: bool,
+) -> Result<String, AllocError> {
+    let mut text = String::new(alloc);
+    match read(alloc, file, names) {
+        Ok(netlist) => {
+            if !whole {
+                put_counts(&mut text, names, &netlist)?;
+                return Ok(text);
+            }
+            put_netlist(&mut text, names, &netlist)?;
+        }
+        Err(fault) => put_fault(&mut text, &fault)?,
+    }
+    text.push_str("; names")?;
+    put_names(&mut text, names)?;
+    Ok(text)
+}
+
+/// The answer to a case, after what it shows. Where the case has a file, it is the last one.
+pub fn try_case(alloc: Global, line: &str, last: &mut Vec<u8>) -> Result<String, AllocError> {
+    if !field(line, 2).is_empty() {
+        *last = bytes_of(alloc, field(line, 2))?;
+    }
+    let mut file = Vec::new(alloc);
+    file.extend_from_slice(last.as_slice())?;
+    apply_changes(file.as_mut_slice(), field(line, 3));
+    let mut names = names_of(alloc, field(line, 1))?;
+    let told = told_of(alloc, file.as_slice(), &mut names, true)?;
     let mut text = String::new(alloc);
     text.push_str(field(line, 0))?;
     text.push_str(": ")?;
-    let file = bytes_of(alloc, field(line, 1))?;
-    let mut names = Names::new(alloc);
-    match read(alloc, file.as_slice(), &mut names) {
-        Ok(netlist) => put_netlist(&mut text, &names, &netlist)?,
-        Err(fault) => put_fault(&mut text, &fault)?,
-    }
+    text.push_str(told.as_str())?;
     Ok(text)
 }

@@ -1,5 +1,7 @@
 -- The bits of the top's ports, port by port.
-use Rattle.std.proofs.Common.{◌≡◌, refl, ap, sym, subst, ◌∙◌, ℕ, ◌+◌, ◌<◌, List, [], ◌∷◌, ◌++◌, map, take, length, slice_get, Some, IfSome, append-nil, option_map, unwrap_or}
+use Rattle.std.proofs.Common.{◌≡◌, refl, ap, sym, subst, ◌∙◌, ℕ, ◌+◌, ◌<◌, List, [], ◌∷◌, ◌++◌, map}
+use Rattle.std.proofs.Common.{take, length, slice_get, Some, IfSome, append-nil, option_map}
+use Rattle.std.proofs.Common.{unwrap_or}
 use Rattle.std.specs.List.{AllByRecursion, cons_option, filter_map, flat_map}
 use Rattle.std.proofs.lemmas.Grind.{flat_map-append}
 use Rattle.std.proofs.lemmas.List.{map-append}
@@ -11,7 +13,8 @@ use Rattle.ix_rec.specs.declared.netlist.CellDeclaration.{CellDeclaration}
 use Rattle.ix_rec.specs.declared.netlist.NetlistRec.{NetlistRec}
 use Rattle.ix_rec.specs.declared.netlist.Port.{Port}
 use Rattle.ix_belmap.specs.declared.ports.Fixing.{Fixing}
-use Rattle.ix_belmap.specs.Pins.{TopFits, bits_of_port, fixing_by, fixing_of, fixings, package_pins, pin_key, port_bits, property, top_ports}
+use Rattle.ix_belmap.specs.Pins.{TopFits, bits_of_port, fixing_by, fixing_of, fixings, package_pins}
+use Rattle.ix_belmap.specs.Pins.{pin_key, port_bits, property, top_ports}
 use Rattle.ix_belmap.proofs.Lists.{among, map_map, take_all, take_more}
 
 abbrev pub bits_of : List Port → List (Port × ℕ)
@@ -31,9 +34,11 @@ pub ports_next : (f : Port × ℕ → Fixing) (design : NetlistRec) (top : CellD
 ports_next f design top i k port before now at is so_far grown =
     grown
     ∙ ap (λ l. l ++ map (λ index. f (port, index)) (bits_of_port port)) so_far
-    ∙ ap (λ l. map f (bits_of ports) ++ l) (sym (map_map f (λ index. (port, index)) (bits_of_port port)))
+    ∙ ap (λ l. map f (bits_of ports) ++ l)
+    (sym (map_map f (λ index. (port, index)) (bits_of_port port)))
     ∙ sym (map-append f (bits_of ports) (bits port))
-    ∙ ap (map f) (ap (λ l. bits_of ports ++ l) (sym (flat_map-cons bits port [] ∙ append-nil (bits port)))
+    ∙ ap (map f) (ap (λ l. bits_of ports ++ l)
+    (sym (flat_map-cons bits port [] ∙ append-nil (bits port)))
     ∙ sym (flat_map-append bits ports (port ∷ [])))
     ∙ ap (λ l. map f (bits_of l)) (sym next)
   where
@@ -49,7 +54,8 @@ ports_next f design top i k port before now at is so_far grown =
         ∙ ap (λ o. ports ++ cons_option o []) is
 
 -- all ports
-pub all_ports : (names : List (List ℕ)) (rec : DeviceRec) (design : NetlistRec) (pins : List PackagePin)
+pub all_ports : (names : List (List ℕ)) (rec : DeviceRec) (design : NetlistRec)
+    (pins : List PackagePin)
     (top : CellDeclaration) (n : ℕ) (all : List Fixing)
     → slice_get design.cell_decls design.top_inst.cell ≡ Some top → n ≡ length top.ports
     → pins ≡ package_pins names rec design
@@ -62,7 +68,8 @@ all_ports names rec design pins top n all at end is told =
     ∙ ap (λ l. map (fixing_of names rec (package_pins names rec design))
     (bits_of (filter_map (slice_get design.port_list) l))) (take_all top.ports n end)
     ∙ ap (λ o. map (fixing_of names rec (package_pins names rec design))
-    (bits_of (unwrap_or (option_map (λ t. filter_map (slice_get design.port_list) t.ports) o) []))) (sym at)
+    (bits_of (unwrap_or (option_map (λ t. filter_map (slice_get design.port_list) t.ports) o) [])))
+    (sym at)
 
 -- a port of the top is there
 pub port_there : (design : NetlistRec) (top : CellDeclaration) (i k : ℕ) → TopFits design
@@ -70,11 +77,13 @@ pub port_there : (design : NetlistRec) (top : CellDeclaration) (i k : ℕ) → T
     → k < length design.port_list
 port_there design top i k fits at here =
     among (λ port. port < length design.port_list) top.ports i k
-    (subst (λ o. IfSome o (λ t. AllByRecursion (λ port. port < length design.port_list) t.ports)) at fits.ports)
+    (subst (λ o. IfSome o (λ t. AllByRecursion (λ port. port < length design.port_list) t.ports)) at
+    fits.ports)
     here
 
 -- where a bit is fixed
-pub fixing_told : (names : List (List ℕ)) (rec : DeviceRec) (pins : List PackagePin) (port : Port) (index : ℕ)
+pub fixing_told : (names : List (List ℕ)) (rec : DeviceRec) (pins : List PackagePin) (port : Port)
+    (index : ℕ)
     → fixing_by rec pins (property names port.prop_map.entries (pin_key port.kind index))
     ≡ fixing_of names rec pins (port, index)
 unfolding fixing_of

@@ -1,6 +1,8 @@
 -- Port cells that fail, one by one, and the sites of fixed ones.
-use Rattle.std.proofs.Common.{◌≡◌, ◌≢◌, refl, ap, sym, ◌∙◌, ℕ, ◌+◌, ◌<◌, ◌≤◌, List, [], ◌∷◌, take, length}
-use Rattle.std.proofs.Common.{slice_get, Option, Some, None, Bool, true, false, not, ◌||◌, nat_eq, option_map}
+use Rattle.std.proofs.Common.{◌≡◌, ◌≢◌, refl, ap, sym, ◌∙◌, ℕ, ◌+◌, ◌<◌, ◌≤◌, List, [], ◌∷◌, take}
+use Rattle.std.proofs.Common.{length}
+use Rattle.std.proofs.Common.{slice_get, Option, Some, None, Bool, true, false, not, ◌||◌, nat_eq}
+use Rattle.std.proofs.Common.{option_map}
 use Rattle.std.proofs.Common.{option_and_then, unwrap_or, is_none, is_some, arith}
 use Rattle.std.specs.List.{list_any}
 use Rattle.std.proofs.lemmas.Bool.{eqb-true, eqb-false}
@@ -8,8 +10,10 @@ use Rattle.std.proofs.lemmas.Option.{slice_get_within}
 use Rattle.ix_first.specs.First.{or_later}
 use Rattle.ix_belmap.specs.declared.ports.Fixing.{Fixing}
 use Rattle.ix_belmap.specs.declared.ports.Fixing.TheVariants.{Free, Nowhere, At}
-use Rattle.ix_belmap.specs.Pins.{IsFirst, NoneFails, is_nowhere, is_nowhere_at, is_second, name_one_pin, site_of_fixing}
-use Rattle.ix_belmap.proofs.Lists.{any_alike, any_more, eq_sym, take_all, taken_here, taken_other, taken_past}
+use Rattle.ix_belmap.specs.Pins.{IsFirst, NoneFails, is_nowhere, is_nowhere_at, is_second}
+use Rattle.ix_belmap.specs.Pins.{name_one_pin, site_of_fixing}
+use Rattle.ix_belmap.proofs.Lists.{any_alike, any_more, eq_sym, take_all, taken_here, taken_other}
+use Rattle.ix_belmap.proofs.Lists.{taken_past}
 
 not_nowhere : (f : Fixing) → (f ≡ Nowhere → ⊥) → is_nowhere f ≡ false
 not_nowhere Free h = refl
@@ -44,11 +48,13 @@ pub record KnowsUsed (all : List Fixing) (used : ℕ → Option (Unit {0})) (i :
 
 second_at : (all : List Fixing) (i : ℕ) (f : Fixing) → slice_get all i ≡ Some f
     → is_second all i ≡ list_any (name_one_pin f) (take i all)
-second_at all i f at = ap (λ o. unwrap_or (option_map (λ g. list_any (name_one_pin g) (take i all)) o) false) at
+second_at all i f at = ap (λ o. unwrap_or
+    (option_map (λ g. list_any (name_one_pin g) (take i all)) o) false) at
 
 -- whether a pin is named a second time is what the table tells
 second_told : (all : List Fixing) (used : ℕ → Option (Unit {0})) (i pin site : ℕ)
-    → slice_get all i ≡ Some (At pin site) → KnowsUsed all used i → is_second all i ≡ is_some (used pin)
+    → slice_get all i ≡ Some (At pin site) → KnowsUsed all used i
+    → is_second all i ≡ is_some (used pin)
 second_told all used i pin site at known =
     second_at all i (At pin site) at
     ∙ any_alike (name_one_pin (At pin site)) (is_pin pin) (take i all) (names_pin pin site)
@@ -59,10 +65,12 @@ some_not_none None = refl
 some_not_none (Some u) = refl
 
 pub second_here : (all : List Fixing) (used : ℕ → Option (Unit {0})) (i pin site : ℕ) (new : Bool)
-    → slice_get all i ≡ Some (At pin site) → KnowsUsed all used i → new ≡ is_none (used pin) → new ≡ false
+    → slice_get all i ≡ Some (At pin site) → KnowsUsed all used i → new ≡ is_none (used pin)
+    → new ≡ false
     → IsFirst (is_second all) i
 second_here all used i pin site new at known told is = record {
-  here = second_told all used i pin site at known ∙ some_not_none (used pin) ∙ ap not (sym told ∙ is);
+  here = second_told all used i pin site at known ∙ some_not_none (used pin)
+      ∙ ap not (sym told ∙ is);
   earlier = known.apart;
 }
 
@@ -81,13 +89,16 @@ later_some None false = refl
 
 -- one more package pin
 pub used_pin : (all : List Fixing) (used now : ℕ → Option (Unit {0})) (i pin site : ℕ) (new : Bool)
-    → slice_get all i ≡ Some (At pin site) → KnowsUsed all used i → new ≡ is_none (used pin) → new ≡ true
+    → slice_get all i ≡ Some (At pin site) → KnowsUsed all used i → new ≡ is_none (used pin)
+    → new ≡ true
     → ((q : ℕ) → now q ≡ or_later (used q) (nat_eq pin q) (tt {0})) → KnowsUsed all now (i + 1)
 used_pin all used now i pin site new at known told is put = record {
   apart = apart_next all i known.apart
-      (second_told all used i pin site at known ∙ some_not_none (used pin) ∙ ap not (sym told ∙ is));
+      (second_told all used i pin site at known ∙ some_not_none (used pin)
+      ∙ ap not (sym told ∙ is));
   names = λ q. ap is_some (put q) ∙ later_some (used q) (nat_eq pin q)
-      ∙ ap (λ b. b || nat_eq pin q) (known.names q) ∙ sym (any_more (is_pin q) all i (At pin site) at);
+      ∙ ap (λ b. b || nat_eq pin q) (known.names q)
+      ∙ sym (any_more (is_pin q) all i (At pin site) at);
 }
 
 abbrev pub IsNotAt : Fixing → Type 0
@@ -129,7 +140,8 @@ pub none_second : (all : List Fixing) (used : ℕ → Option (Unit {0})) (i : �
 none_second all used i end known k = by (slice_get all k) refl
   where
     by : (o : Option Fixing) → slice_get all k ≡ o → is_second all k ≡ false
-    by None e = ap (λ o. unwrap_or (option_map (λ g. list_any (name_one_pin g) (take k all)) o) false) e
+    by None e = ap (λ o. unwrap_or (option_map (λ g. list_any (name_one_pin g) (take k all)) o)
+        false) e
     by (Some f) e = known.apart k (let lt = slice_get_within all k f e in omega arith)
 
 -- the sites of the first port cells
@@ -138,12 +150,14 @@ sites_until all count cell = option_and_then site_of_fixing (slice_get (take cou
 
 pub site_more : (all : List Fixing) (old now : ℕ → Option ℕ) (i pin site : ℕ)
     → slice_get all i ≡ Some (At pin site) → ((q : ℕ) → old q ≡ sites_until all i q)
-    → now i ≡ Some site → ((q : ℕ) → q ≢ i → now q ≡ old q) → (q : ℕ) → now q ≡ sites_until all (i + 1) q
+    → now i ≡ Some site → ((q : ℕ) → q ≢ i → now q ≡ old q) → (q : ℕ)
+    → now q ≡ sites_until all (i + 1) q
 site_more all old now i pin site at before here others q = by (nat_eq q i) refl
   where
     by : (b : Bool) → nat_eq q i ≡ b → now q ≡ sites_until all (i + 1) q
     by true e = let is : q ≡ i = eqb-true q i e in
-        ap now is ∙ here ∙ sym (ap (option_and_then site_of_fixing) (taken_here all i (At pin site) at))
+        ap now is ∙ here ∙ sym (ap (option_and_then site_of_fixing)
+        (taken_here all i (At pin site) at))
         ∙ ap (sites_until all (i + 1)) (sym is)
     by false e = let ne : q ≢ i = eqb-false q i e in
         others q ne ∙ before q

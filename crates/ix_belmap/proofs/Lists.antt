@@ -1,6 +1,8 @@
 -- Lists, one item at a time.
-use Rattle.std.proofs.Common.{◌≡◌, ◌≢◌, refl, ap, sym, subst, ◌∙◌, ℕ, zero, suc, ◌+◌, ◌<◌, ◌≤◌, List}
-use Rattle.std.proofs.Common.{[], ◌∷◌, ◌++◌, map, take, get_or, length, set, slice_get, Some, None, Bool, true}
+use Rattle.std.proofs.Common.{◌≡◌, ◌≢◌, refl, ap, sym, subst, ◌∙◌, ℕ, zero, suc, ◌+◌, ◌<◌, ◌≤◌}
+use Rattle.std.proofs.Common.{List}
+use Rattle.std.proofs.Common.{[], ◌∷◌, ◌++◌, map, take, get_or, length, set, slice_get, Some, None}
+use Rattle.std.proofs.Common.{Bool, true}
 use Rattle.std.proofs.Common.{false, cond, ◌&&◌, ◌||◌, nat_eq, arith}
 use Rattle.std.specs.List.{AllByRecursion, filter, list_all, list_any, range_with_len}
 use Rattle.std.proofs.lemmas.List.Elements.{filter-append}
@@ -141,7 +143,8 @@ between P [] x ys all = all.0
 between P (z ∷ xs) x ys all = between P xs x ys all.1
 
 -- what a filter leaves where another leaves nothing
-pub filter_less : {A : Type 0} (p q : A → Bool) (xs : List A) → ((x : A) → p x ≡ false → q x ≡ false)
+pub filter_less : {A : Type 0} (p q : A → Bool) (xs : List A)
+    → ((x : A) → p x ≡ false → q x ≡ false)
     → filter p xs ≡ [] → filter q xs ≡ []
 filter_less p q [] less h = refl
 filter_less p q (x ∷ xs) less h = by (filter_less p q xs less) (p x) refl h
@@ -173,7 +176,8 @@ filter_twice p q (x ∷ xs) = by (filter_twice p q xs) (q x)
     by rest false = rest
 
 -- the items that pass among the first, with one more
-pub filter_more : {A : Type 0} (p : A → Bool) (xs : List A) (i : ℕ) (x : A) → slice_get xs i ≡ Some x
+pub filter_more : {A : Type 0} (p : A → Bool) (xs : List A) (i : ℕ) (x : A)
+    → slice_get xs i ≡ Some x
     → filter p (take (i + 1) xs) ≡ filter p (take i xs) ++ cond (p x) (x ∷ []) []
 filter_more p xs i x at =
     ap (filter p) (take_more xs i x at) ∙ filter-append p (take i xs) (x ∷ [])
@@ -190,7 +194,8 @@ pub all_passing : {A : Type 0} (P : A → Type 0) (p : A → Bool) (xs : List A)
 all_passing P p [] all = tt
 all_passing P p (x ∷ xs) all = by (all_passing P p xs all.1) (p x)
   where
-    by : AllByRecursion P (filter p xs) → (b : Bool) → AllByRecursion P (cond b (x ∷ filter p xs) (filter p xs))
+    by : AllByRecursion P (filter p xs) → (b : Bool)
+        → AllByRecursion P (cond b (x ∷ filter p xs) (filter p xs))
     by rest true = (all.0, rest)
     by rest false = rest
 

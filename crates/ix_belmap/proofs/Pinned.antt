@@ -1,7 +1,10 @@
 -- The nets of port cells and the rows of nets, as far as a map of pins was walked.
-use Rattle.std.proofs.Common.{◌≡◌, ◌≢◌, refl, ap, sym, subst, ◌∙◌, ℕ, zero, suc, ◌+◌, ◌-◌, ◌<◌, ◌≤◌, List, []}
-use Rattle.std.proofs.Common.{◌∷◌, ◌++◌, length, replicate, slice_get, Bool, true, false, cond, not, ◌&&◌, ◌||◌}
-use Rattle.std.proofs.Common.{T, Vec, set, nat_eq, nat_lt, Option, Some, None, option_map, append-nil, arith}
+use Rattle.std.proofs.Common.{◌≡◌, ◌≢◌, refl, ap, sym, subst, ◌∙◌, ℕ, zero, suc, ◌+◌, ◌-◌, ◌<◌, ◌≤◌}
+use Rattle.std.proofs.Common.{List, []}
+use Rattle.std.proofs.Common.{◌∷◌, ◌++◌, length, replicate, slice_get, Bool, true, false, cond, not}
+use Rattle.std.proofs.Common.{◌&&◌, ◌||◌}
+use Rattle.std.proofs.Common.{T, Vec, set, nat_eq, nat_lt, Option, Some, None, option_map}
+use Rattle.std.proofs.Common.{append-nil, arith}
 use Rattle.std.proofs.lemmas.Bool.{eqb-true, eqb-false, eq-eqb, ltb-true, ltb-false, le-ltb}
 use Rattle.std.proofs.lemmas.List.{append_assoc, length-replicate, map-append}
 use Rattle.std.proofs.lemmas.Option.{slice_get-map}
@@ -58,7 +61,8 @@ pub nets_start : (flat : Flat) (nets : ℕ → Option (Option ℕ)) (rest : List
     → KnowsNets flat nets rest
 nets_start flat nets rest is none = record { done = []; all = sym is; told = none }
 
-pub nets_signal : (flat : Flat) (old new : ℕ → Option (Option ℕ)) (rest now : List Entry) (pin : Entry) (net : ℕ)
+pub nets_signal : (flat : Flat) (old new : ℕ → Option (Option ℕ)) (rest now : List Entry)
+    (pin : Entry) (net : ℕ)
     → KnowsNets flat old rest → rest ≡ pin ∷ now → pin.1 ≡ Signal net
     → ((i : ℕ) → new i ≡ option_map (λ v. or_later v (nat_eq pin.0.0 i) net) (old i))
     → KnowsNets flat new now
@@ -68,7 +72,8 @@ nets_signal flat old new rest now pin net known step is put = record {
   told = λ port lt. put port
       ∙ ap (option_map (λ v. or_later v (nat_eq pin.0.0 port) net)) (known.told port lt)
       ∙ ap Some (sym (ap (λ l. slice_get l 0) (signals_push known.done pin port)
-      ∙ first_of (signals_in known.done port) (cons_option (cond (nat_eq pin.0.0 port) (signal pin.1) None) [])
+      ∙ first_of (signals_in known.done port)
+      (cons_option (cond (nat_eq pin.0.0 port) (signal pin.1) None) [])
       (nat_eq pin.0.0 port) net
       (ap (λ o. cons_option (cond (nat_eq pin.0.0 port) o None) []) (ap signal is))));
 }
@@ -85,7 +90,8 @@ nothing_more : (b : Bool) (o : Option ℕ) → o ≡ None → cons_option (cond 
 nothing_more true o is = ap (λ p. cons_option p []) is
 nothing_more false o is = refl
 
-pub nets_constant : (flat : Flat) (old : ℕ → Option (Option ℕ)) (rest now : List Entry) (pin : Entry)
+pub nets_constant : (flat : Flat) (old : ℕ → Option (Option ℕ)) (rest now : List Entry)
+    (pin : Entry)
     → KnowsNets flat old rest → rest ≡ pin ∷ now → IsConstant pin.1 → KnowsNets flat old now
 nets_constant flat old rest now pin known step constant = record {
   done = known.done ++ pin ∷ [];
@@ -97,7 +103,8 @@ nets_constant flat old rest now pin known step constant = record {
       ∙ append-nil (signals_in known.done port)));
 }
 
-pub nets_end : (flat : Flat) (nets : ℕ → Option (Option ℕ)) (rest : List Entry) → KnowsNets flat nets rest
+pub nets_end : (flat : Flat) (nets : ℕ → Option (Option ℕ)) (rest : List Entry)
+    → KnowsNets flat nets rest
     → rest ≡ [] → (port : ℕ) → port < flat.ports → nets port ≡ Some (net_of_port flat port)
 unfolding net_of_port signals_of
 nets_end flat nets rest known is port lt =
@@ -122,14 +129,16 @@ empty_at zero i lt = absurd (omega arith)
 empty_at (suc n) zero lt = refl
 empty_at (suc n) (suc i) lt = empty_at n i (omega arith)
 
-pub rows_start : (flat : Flat) (rows : List (List ℕ)) (n : ℕ) (rest : List Entry) → rest ≡ entries flat.pins
+pub rows_start : (flat : Flat) (rows : List (List ℕ)) (n : ℕ) (rest : List Entry)
+    → rest ≡ entries flat.pins
     → n ≡ length flat.nets → rows ≡ replicate n [] → KnowsRows flat rows rest
 rows_start flat rows n rest is as_many empty = record {
   done = [];
   all = sym is;
   count = ap length empty ∙ length-replicate n [] ∙ as_many;
   each = λ net lt. ap (λ l. slice_get l net) empty ∙ empty_at n net (omega arith)
-      ∙ ap Some (sym (filter_none (on_in [] net) flat.ports (length flat.cells - flat.ports) (λ q le below. refl)));
+      ∙ ap Some (sym (filter_none (on_in [] net) flat.ports (length flat.cells - flat.ports)
+      (λ q le below. refl)));
 }
 
 or_false : (b : Bool) → (b || false) ≡ b
@@ -138,10 +147,12 @@ or_false false = refl
 
 on_push : (pins : List Entry) (pin : Entry) (net cell : ℕ) (o : Option ℕ)
     → cond (nat_eq pin.0.0 cell) (signal pin.1) None ≡ o
-    → on_in (pins ++ pin ∷ []) net cell ≡ (on_in pins net cell || list_any (nat_eq net) (cons_option o []))
+    → on_in (pins ++ pin ∷ []) net cell ≡
+    (on_in pins net cell || list_any (nat_eq net) (cons_option o []))
 on_push pins pin net cell o is =
     ap (list_any (nat_eq net)) (signals_push pins pin cell)
-    ∙ list_any-append (nat_eq net) (signals_in pins cell) (cons_option (cond (nat_eq pin.0.0 cell) (signal pin.1) None) [])
+    ∙ list_any-append (nat_eq net) (signals_in pins cell)
+    (cons_option (cond (nat_eq pin.0.0 cell) (signal pin.1) None) [])
     ∙ ap (λ p. on_in pins net cell || list_any (nat_eq net) (cons_option p [])) is
 
 -- a pin that isn't the cell's, or isn't on the net, changes nothing
@@ -163,15 +174,18 @@ module _ (flat : Flat) (done : List Entry) (pin : Entry) (rest : List Entry)
   abbrev pub next : List ℕ
   next = filter (on_in (done ++ pin ∷ []) net) (inner_cells flat)
 
-  same_row : ((q : ℕ) → flat.ports ≤ q → on_in (done ++ pin ∷ []) net q ≡ on_in done net q) → row ≡ next
+  same_row : ((q : ℕ) → flat.ports ≤ q → on_in (done ++ pin ∷ []) net q ≡ on_in done net q)
+      → row ≡ next
   same_row same =
-      filter_alike (on_in done net) (on_in (done ++ pin ∷ []) net) flat.ports (length flat.cells - flat.ports)
+      filter_alike (on_in done net) (on_in (done ++ pin ∷ []) net) flat.ports
+      (length flat.cells - flat.ports)
       (λ q le lt. sym (same q le))
 
   cell_fits : pin.0.0 < length flat.cells
   cell_fits =
       (between (λ entry. IsCellOf flat entry.0.0 × IsNetOf flat entry.1) done pin rest
-      (subst (AllByRecursion (λ entry. IsCellOf flat entry.0.0 × IsNetOf flat entry.1)) all fits.pins)).0
+      (subst (AllByRecursion (λ entry. IsCellOf flat entry.0.0 × IsNetOf flat entry.1)) all
+      fits.pins)).0
 
   sorted : T (is_sorted pin_order (done ++ pin ∷ rest))
   sorted = subst (λ l. T (is_sorted pin_order l)) all (entries_sorted flat.pins)
@@ -183,7 +197,8 @@ module _ (flat : Flat) (done : List Entry) (pin : Entry) (rest : List Entry)
   grows : pin.1 ≡ Signal net → flat.ports ≤ pin.0.0 → with_cell row pin.0.0 ≡ next
   grows is le =
       let ports = fits.ports in let cell = cell_fits in
-      sym (row_grows (on_in done net) (on_in (done ++ pin ∷ []) net) flat.ports (length flat.cells - flat.ports) pin.0.0
+      sym (row_grows (on_in done net) (on_in (done ++ pin ∷ []) net) flat.ports
+      (length flat.cells - flat.ports) pin.0.0
       le (omega arith) past (λ q. here q (nat_eq pin.0.0 q) refl))
     where
       here : (q : ℕ) (b : Bool) → nat_eq pin.0.0 q ≡ b
@@ -191,24 +206,29 @@ module _ (flat : Flat) (done : List Entry) (pin : Entry) (rest : List Entry)
       here q true e =
           on_push done pin net q (Some net) (ap (λ b. cond b (signal pin.1) None) e ∙ ap signal is)
           ∙ ap (λ b. on_in done net q || b)
-          (or_false (nat_eq net net) ∙ eq-eqb net net refl ∙ sym (eq-eqb q pin.0.0 (sym (eqb-true pin.0.0 q e))))
+          (or_false (nat_eq net net) ∙ eq-eqb net net refl
+          ∙ sym (eq-eqb q pin.0.0 (sym (eqb-true pin.0.0 q e))))
       here q false e =
           on_same done pin net q (ap (λ b. cond b (signal pin.1) None) e)
-          ∙ sym (ap (λ b. on_in done net q || b) (eq_not q pin.0.0 (λ k. eqb-false pin.0.0 q e (sym k)))
+          ∙ sym (ap (λ b. on_in done net q || b)
+          (eq_not q pin.0.0 (λ k. eqb-false pin.0.0 q e (sym k)))
           ∙ or_false (on_in done net q))
 
   pub row_next : with_pin flat.ports pin.0.0 pin.1 net row ≡ next
   row_next = by pin.1 refl
     where
       constant : signal pin.1 ≡ None → row ≡ next
-      constant none = same_row (λ q le. on_same done pin net q (cond_none (nat_eq pin.0.0 q) (signal pin.1) none))
+      constant none = same_row (λ q le. on_same done pin net q
+          (cond_none (nat_eq pin.0.0 q) (signal pin.1) none))
 
       other : (m : ℕ) → pin.1 ≡ Signal m → nat_eq m net ≡ false → row ≡ next
       other m is apart = same_row (λ q le. at q (nat_eq pin.0.0 q) refl)
         where
-          at : (q : ℕ) (b : Bool) → nat_eq pin.0.0 q ≡ b → on_in (done ++ pin ∷ []) net q ≡ on_in done net q
+          at : (q : ℕ) (b : Bool) → nat_eq pin.0.0 q ≡ b
+              → on_in (done ++ pin ∷ []) net q ≡ on_in done net q
           at q true e =
-              on_push done pin net q (Some m) (ap (λ b. cond b (signal pin.1) None) e ∙ ap signal is)
+              on_push done pin net q (Some m)
+              (ap (λ b. cond b (signal pin.1) None) e ∙ ap signal is)
               ∙ ap (λ b. on_in done net q || b)
               (or_false (nat_eq net m) ∙ eq_not net m (λ k. eqb-false m net apart (sym k)))
               ∙ or_false (on_in done net q)
@@ -216,7 +236,8 @@ module _ (flat : Flat) (done : List Entry) (pin : Entry) (rest : List Entry)
 
       port : pin.0.0 < flat.ports → row ≡ next
       port lt = same_row (λ q le. on_same done pin net q
-          (ap (λ b. cond b (signal pin.1) None) (eq_not pin.0.0 q (let ne : pin.0.0 ≢ q = omega arith in ne))))
+          (ap (λ b. cond b (signal pin.1) None)
+          (eq_not pin.0.0 q (let ne : pin.0.0 ≢ q = omega arith in ne))))
 
       by : (r : NetRef) → pin.1 ≡ r → with_pin flat.ports pin.0.0 r net row ≡ next
       by Gnd e = constant (ap signal e)
@@ -226,23 +247,29 @@ module _ (flat : Flat) (done : List Entry) (pin : Entry) (rest : List Entry)
           test : (a : Bool) → nat_eq m net ≡ a → (b : Bool) → nat_lt pin.0.0 flat.ports ≡ b
               → cond (a && not b) (with_cell row pin.0.0) row ≡ next
           test true h true g = port (ltb-true pin.0.0 flat.ports g)
-          test true h false g = grows (e ∙ ap Signal (eqb-true m net h)) (ltb-false pin.0.0 flat.ports g)
+          test true h false g = grows (e ∙ ap Signal (eqb-true m net h))
+              (ltb-false pin.0.0 flat.ports g)
           test false h b g = other m e h
 
 -- one pin more
-pub rows_next : (flat : Flat) (old new : List (List ℕ)) (rest now : List Entry) (pin : Entry) → NumbersFit flat
+pub rows_next : (flat : Flat) (old new : List (List ℕ)) (rest now : List Entry) (pin : Entry)
+    → NumbersFit flat
     → KnowsRows flat old rest → rest ≡ pin ∷ now → length new ≡ length old
-    → ((n : ℕ) → slice_get new n ≡ option_map (with_pin flat.ports pin.0.0 pin.1 n) (slice_get old n))
+    → ((n : ℕ) → slice_get new n ≡ option_map (with_pin flat.ports pin.0.0 pin.1 n)
+    (slice_get old n))
     → KnowsRows flat new now
 rows_next flat old new rest now pin fits known step as_many put = record {
   done = known.done ++ pin ∷ [];
   all = split (entries flat.pins) known.done rest now pin known.all step;
   count = as_many ∙ known.count;
-  each = λ net lt. put net ∙ ap (option_map (with_pin flat.ports pin.0.0 pin.1 net)) (known.each net lt)
-      ∙ ap Some (row_next flat known.done pin now fits (known.all ∙ ap (λ l. known.done ++ l) step) net);
+  each = λ net lt. put net ∙ ap (option_map (with_pin flat.ports pin.0.0 pin.1 net))
+      (known.each net lt)
+      ∙ ap Some (row_next flat known.done pin now fits
+      (known.all ∙ ap (λ l. known.done ++ l) step) net);
 }
 
-pub rows_end : (flat : Flat) (rows : List (List ℕ)) (rest : List Entry) → KnowsRows flat rows rest → rest ≡ []
+pub rows_end : (flat : Flat) (rows : List (List ℕ)) (rest : List Entry) → KnowsRows flat rows rest
+    → rest ≡ []
     → AreRows flat rows
 unfolding is_on signals_of
 rows_end flat rows rest known is = record {
@@ -259,7 +286,8 @@ net_below flat count Gnd is h = tt
 net_below flat count Vcc is h = tt
 net_below flat count (Signal n) is h = omega arith
 
-pub row_there : (flat : Flat) (rows : List (List ℕ)) (count : ℕ) (rest now : List Entry) (pin : Entry) → NumbersFit flat
+pub row_there : (flat : Flat) (rows : List (List ℕ)) (count : ℕ) (rest now : List Entry)
+    (pin : Entry) → NumbersFit flat
     → KnowsRows flat rows rest → rest ≡ pin ∷ now → count ≡ length rows → IsNetBelow count pin.1
 row_there flat rows count rest now pin fits known step is =
     net_below flat count pin.1 (is ∙ known.count)
@@ -282,7 +310,8 @@ empty_more rows n row empty is =
     ∙ ap (λ l. replicate n [] ++ l ∷ []) empty ∙ sym (replicate_more n [])
 
 -- a row with a cell put into it
-pub put_told : (rows : List (Vec ℕ Global)) (ports cell : ℕ) (ref : NetRef) (net i : ℕ) (old row : Vec ℕ Global)
+pub put_told : (rows : List (Vec ℕ Global)) (ports cell : ℕ) (ref : NetRef) (net i : ℕ)
+    (old row : Vec ℕ Global)
     → ref ≡ Signal net → i ≡ net → i < length rows → ports ≤ cell → slice_get rows i ≡ Some old
     → row.items ≡ with_cell old.items cell
     → (n : ℕ) → slice_get (lists_of (set rows i row)) n
@@ -302,7 +331,8 @@ put_told rows ports cell ref net i old row is place lt inner at put n =
         ∙ ap (λ b. cond (not b) (with_cell old.items cell) old.items) passes)
 
     apart : nat_eq i n ≡ false → (o : Option (Vec ℕ Global))
-        → option_map (λ v. v.items) o ≡ option_map (with_pin ports cell ref n) (option_map (λ v. v.items) o)
+        → option_map (λ v. v.items) o ≡ option_map (with_pin ports cell ref n)
+        (option_map (λ v. v.items) o)
     apart e None = refl
     apart e (Some v) = ap Some (sym (ap (λ r. with_pin ports cell r n v.items) is
         ∙ ap (λ b. cond (b && not (nat_lt cell ports)) (with_cell v.items cell) v.items)

@@ -22,7 +22,8 @@ use Rattle.ix_rec.specs.declared.netlist.CellDeclaration.{CellDeclaration}
 use Rattle.ix_rec.specs.declared.netlist.NetlistRec.{NetlistRec}
 use Rattle.ix_rec.specs.declared.netlist.Port.{Port}
 use Rattle.ix_flat.specs.Range.{IsCellOf, IsDriverNamed, IsDriverOf, IsInRange, IsNamed, IsNetOf}
-use Rattle.ix_belmap.specs.Pins.{TopFits, bits_of_kind, bits_of_port, cells_of_port, port_bits, top_ports}
+use Rattle.ix_belmap.specs.Pins.{TopFits, bits_of_kind, bits_of_port, cells_of_port, port_bits}
+use Rattle.ix_belmap.specs.Pins.{top_ports}
 
 -- what holds of the item at each place holds of all
 pub all_places : {A : Type 0} (P : A → Type 0) (xs : List A)
@@ -36,7 +37,8 @@ among P [] i x all at = absurd (none-some x at)
 among P (y ∷ ys) zero x all at = subst P (same_Some y x at) all.0
 among P (y ∷ ys) (suc i) x all at = among P ys i x all.1 at
 
-pub each_of : {A : Type 0} (P Q : A → Type 0) (xs : List A) → ((x : A) → P x → Q x) → AllByRecursion P xs
+pub each_of : {A : Type 0} (P Q : A → Type 0) (xs : List A) → ((x : A) → P x → Q x)
+    → AllByRecursion P xs
     → AllByRecursion Q xs
 each_of P Q [] f all = tt
 each_of P Q (x ∷ xs) f all = (f x all.0, each_of P Q xs f all.1)
@@ -60,18 +62,22 @@ pub record Walked (flat : Flat) (names : ℕ) (all rest : List Entry) : Type 0 w
   pub whole : all ≡ done ++ rest
   pub fit : AllByRecursion (PinFits flat names) done
 
-pub walked_start : (flat : Flat) (names : ℕ) (all rest : List Entry) → rest ≡ all → Walked flat names all rest
+pub walked_start : (flat : Flat) (names : ℕ) (all rest : List Entry) → rest ≡ all
+    → Walked flat names all rest
 walked_start flat names all rest is = record { done = []; whole = sym is; fit = tt }
 
 pub walked_next : (flat : Flat) (names : ℕ) (all rest now : List Entry) (entry : Entry)
-    → Walked flat names all rest → rest ≡ entry ∷ now → PinFits flat names entry → Walked flat names all now
+    → Walked flat names all rest → rest ≡ entry ∷ now → PinFits flat names entry
+    → Walked flat names all now
 walked_next flat names all rest now entry before step fits = record {
   done = before.done ++ entry ∷ [];
-  whole = before.whole ∙ ap (λ l. before.done ++ l) step ∙ sym (append_assoc before.done (entry ∷ []) now);
+  whole = before.whole ∙ ap (λ l. before.done ++ l) step
+      ∙ sym (append_assoc before.done (entry ∷ []) now);
   fit = all_push (PinFits flat names) before.done entry before.fit fits;
 }
 
-pub walked_end : (flat : Flat) (names : ℕ) (all rest : List Entry) → Walked flat names all rest → rest ≡ []
+pub walked_end : (flat : Flat) (names : ℕ) (all rest : List Entry) → Walked flat names all rest
+    → rest ≡ []
     → AllByRecursion (PinFits flat names) all
 walked_end flat names all rest told is =
     subst (AllByRecursion (PinFits flat names))
@@ -97,22 +103,29 @@ unnamed_driver : (names : ℕ) (driver : Option CellPin) → driver ≡ None →
 unnamed_driver names None is = tt
 unnamed_driver names (Some pin) is = absurd (none-some pin (sym is))
 
-module _ (flat : Flat) (names : ℕ) (le : flat.ports ≤ length flat.cells) (tables : len flat.tables ≡ 0)
+module _ (flat : Flat) (names : ℕ) (le : flat.ports ≤ length flat.cells)
+    (tables : len flat.tables ≡ 0)
     (fixed : len flat.fixed ≡ 0)
-    (cells : (q : ℕ) (cell : FlatCell) → slice_get flat.cells q ≡ Some cell → (cell.name < names) × (cell.ty < names))
-    (nets : (n : ℕ) (net : FlatNet) → slice_get flat.nets n ≡ Some net → (net.name < names) × (net.driver ≡ None))
+    (cells : (q : ℕ) (cell : FlatCell) → slice_get flat.cells q ≡ Some cell
+    → (cell.name < names) × (cell.ty < names))
+    (nets : (n : ℕ) (net : FlatNet) → slice_get flat.nets n ≡ Some net
+    → (net.name < names) × (net.driver ≡ None))
     (pins : AllByRecursion (PinFits flat names) (entries flat.pins)) where
   pub in_range : (rec : DeviceRec) → IsInRange rec flat
   in_range rec = record {
     numbers = record {
       ports = le;
       drivers = λ n net at. no_driver flat net.driver (nets n net at).1;
-      pins = each_of (PinFits flat names) (λ entry. IsCellOf flat entry.0.0 × IsNetOf flat entry.1) (entries flat.pins)
+      pins = each_of (PinFits flat names) (λ entry. IsCellOf flat entry.0.0 × IsNetOf flat entry.1)
+          (entries flat.pins)
           (λ entry fits. (fits.0, fits.1)) pins;
-      tables = λ cell table given. absurd (none-some table (sym (none_given flat.tables cell tables) ∙ given));
-      fixed = λ cell site given. absurd (none-some site (sym (none_given flat.fixed cell fixed) ∙ given));
+      tables = λ cell table given. absurd
+          (none-some table (sym (none_given flat.tables cell tables) ∙ given));
+      fixed = λ cell site given. absurd (none-some site
+          (sym (none_given flat.fixed cell fixed) ∙ given));
     };
-    sites = λ cell site given. absurd (none-some site (sym (none_given flat.fixed cell fixed) ∙ given));
+    sites = λ cell site given. absurd (none-some site
+        (sym (none_given flat.fixed cell fixed) ∙ given));
   }
 
   pub named : IsNamed names flat
@@ -120,7 +133,8 @@ module _ (flat : Flat) (names : ℕ) (le : flat.ports ≤ length flat.cells) (ta
     cells = λ q cell at. (cells q cell at).0;
     types = λ q cell at. (cells q cell at).1;
     nets = λ n net at. (nets n net at).0;
-    pins = each_of (PinFits flat names) (λ entry. entry.0.1 < names) (entries flat.pins) (λ entry fits. fits.2) pins;
+    pins = each_of (PinFits flat names) (λ entry. entry.0.1 < names) (entries flat.pins)
+        (λ entry fits. fits.2) pins;
     drivers = λ n net at. unnamed_driver names net.driver (nets n net at).1;
   }
 
@@ -152,13 +166,15 @@ cells_in port = cells_of_port port.dir (bits_of_kind port.kind port.bus_start po
 
 pub bits_next : (design : NetlistRec) (top : CellDeclaration) (i k : ℕ) (port : Port)
     → slice_get top.ports i ≡ Some k → slice_get design.port_list k ≡ Some port
-    → length (bits_of (first_ports design top (i + 1))) ≡ length (bits_of (first_ports design top i)) + cells_in port
+    → length (bits_of (first_ports design top (i + 1))) ≡ length
+    (bits_of (first_ports design top i)) + cells_in port
 bits_next design top i k port at is =
     ap (λ l. length (bits_of l)) next ∙ ap length (flat_map-append bits ports (port ∷ []))
     ∙ length-append (bits_of ports) (flat_map bits (port ∷ []))
     ∙ ap (λ n. length (bits_of ports) + n)
     (ap length (flat_map-cons bits port [] ∙ append-nil (bits port))
-    ∙ length-map (bits_of_port port) (λ index. (port, index)) ∙ length-range_with_len 0 (cells_in port))
+    ∙ length-map (bits_of_port port) (λ index. (port, index))
+    ∙ length-range_with_len 0 (cells_in port))
   where
     ports : List Port
     ports = first_ports design top i
@@ -177,12 +193,14 @@ pub bits_end : (design : NetlistRec) (top : CellDeclaration) (n : ℕ)
 unfolding port_bits top_ports
 bits_end design top n at end =
     ap (λ l. bits_of (filter_map (slice_get design.port_list) l)) (take_all top.ports n end)
-    ∙ ap (λ o. bits_of (unwrap_or (option_map (λ t. filter_map (slice_get design.port_list) t.ports) o) [])) (sym at)
+    ∙ ap (λ o. bits_of (unwrap_or (option_map
+    (λ t. filter_map (slice_get design.port_list) t.ports) o) [])) (sym at)
 
 pub port_there : (design : NetlistRec) (top : CellDeclaration) (i k : ℕ) → TopFits design
     → slice_get design.cell_decls design.top_inst.cell ≡ Some top → slice_get top.ports i ≡ Some k
     → k < length design.port_list
 port_there design top i k fits at here =
     among (λ port. port < length design.port_list) top.ports i k
-    (subst (λ o. IfSome o (λ t. AllByRecursion (λ port. port < length design.port_list) t.ports)) at fits.ports)
+    (subst (λ o. IfSome o (λ t. AllByRecursion (λ port. port < length design.port_list) t.ports)) at
+    fits.ports)
     here

@@ -45,14 +45,18 @@ is_of_done (a_report.Yes derived) e = refl
 is_of_done (a_report.No rule place) e = refl
 is_of_done (a_report.Demo number luts flip_flops ports) e = refl
 is_of_done a_report.Usage e = let bad : stat.Usage ≡ stat.Done = e in cc
-is_of_done (a_report.Bad file rule place) e = let bad : stat.Bad file rule place ≡ stat.Done = e in cc
+is_of_done (a_report.Bad file rule place) e = let bad : stat.Bad file rule place ≡ stat.Done = e in
+    cc
 is_of_done (a_report.NotBuilt file) e = let bad : stat.NotBuilt file ≡ stat.Done = e in cc
 is_of_done a_report.TooLong e = let bad : stat.TooLong ≡ stat.Done = e in cc
-is_of_done (a_report.TooFewBels kind cells bels) e = let bad : stat.TooFewBels kind cells bels ≡ stat.Done = e in cc
+is_of_done (a_report.TooFewBels kind cells bels) e =
+    let bad : stat.TooFewBels kind cells bels ≡ stat.Done = e in cc
 is_of_done (a_report.Unpackable cell) e = let bad : stat.Unpackable cell ≡ stat.Done = e in cc
 is_of_done (a_report.NoSite cell) e = let bad : stat.NoSite cell ≡ stat.Done = e in cc
-is_of_done (a_report.Unreachable net node) e = let bad : stat.Unreachable net node ≡ stat.Done = e in cc
-is_of_done (a_report.Congested node a b rounds trial) e = let bad : stat.Congested node a b rounds trial ≡ stat.Done = e in cc
+is_of_done (a_report.Unreachable net node) e = let bad : stat.Unreachable net node ≡ stat.Done =
+    e in cc
+is_of_done (a_report.Congested node a b rounds trial) e =
+    let bad : stat.Congested node a b rounds trial ≡ stat.Done = e in cc
 is_of_done (a_report.ReadFault file) e = let bad : stat.ReadFault file ≡ stat.Done = e in cc
 is_of_done (a_report.WriteFault file) e = let bad : stat.WriteFault file ≡ stat.Done = e in cc
 is_of_done a_report.OutOfMemory e = let bad : stat.OutOfMemory ≡ stat.Done = e in cc
@@ -62,19 +66,25 @@ no_put_fault : (report : Report) → status_of report ≡ stat.PutFault → ⊥
 no_put_fault (a_report.Packed cells clusters) e = let bad : stat.Done ≡ stat.PutFault = e in cc
 no_put_fault (a_report.Placed clusters length) e = let bad : stat.Done ≡ stat.PutFault = e in cc
 no_put_fault (a_report.Routed nets pips rounds) e = let bad : stat.Done ≡ stat.PutFault = e in cc
-no_put_fault (a_report.Implemented cells clusters nets pips trial rounds) e = let bad : stat.Done ≡ stat.PutFault = e in cc
+no_put_fault (a_report.Implemented cells clusters nets pips trial rounds) e =
+    let bad : stat.Done ≡ stat.PutFault = e in cc
 no_put_fault (a_report.Yes derived) e = let bad : stat.Done ≡ stat.PutFault = e in cc
 no_put_fault (a_report.No rule place) e = let bad : stat.No rule place ≡ stat.PutFault = e in cc
-no_put_fault (a_report.Demo number luts flip_flops ports) e = let bad : stat.Done ≡ stat.PutFault = e in cc
+no_put_fault (a_report.Demo number luts flip_flops ports) e = let bad : stat.Done ≡ stat.PutFault =
+    e in cc
 no_put_fault a_report.Usage e = let bad : stat.Usage ≡ stat.PutFault = e in cc
-no_put_fault (a_report.Bad file rule place) e = let bad : stat.Bad file rule place ≡ stat.PutFault = e in cc
+no_put_fault (a_report.Bad file rule place) e = let bad : stat.Bad file rule place ≡ stat.PutFault =
+    e in cc
 no_put_fault (a_report.NotBuilt file) e = let bad : stat.NotBuilt file ≡ stat.PutFault = e in cc
 no_put_fault a_report.TooLong e = let bad : stat.TooLong ≡ stat.PutFault = e in cc
-no_put_fault (a_report.TooFewBels kind cells bels) e = let bad : stat.TooFewBels kind cells bels ≡ stat.PutFault = e in cc
+no_put_fault (a_report.TooFewBels kind cells bels) e =
+    let bad : stat.TooFewBels kind cells bels ≡ stat.PutFault = e in cc
 no_put_fault (a_report.Unpackable cell) e = let bad : stat.Unpackable cell ≡ stat.PutFault = e in cc
 no_put_fault (a_report.NoSite cell) e = let bad : stat.NoSite cell ≡ stat.PutFault = e in cc
-no_put_fault (a_report.Unreachable net node) e = let bad : stat.Unreachable net node ≡ stat.PutFault = e in cc
-no_put_fault (a_report.Congested node a b rounds trial) e = let bad : stat.Congested node a b rounds trial ≡ stat.PutFault = e in cc
+no_put_fault (a_report.Unreachable net node) e =
+    let bad : stat.Unreachable net node ≡ stat.PutFault = e in cc
+no_put_fault (a_report.Congested node a b rounds trial) e =
+    let bad : stat.Congested node a b rounds trial ≡ stat.PutFault = e in cc
 no_put_fault (a_report.ReadFault file) e = let bad : stat.ReadFault file ≡ stat.PutFault = e in cc
 no_put_fault (a_report.WriteFault file) e = let bad : stat.WriteFault file ≡ stat.PutFault = e in cc
 no_put_fault a_report.OutOfMemory e = let bad : stat.OutOfMemory ≡ stat.PutFault = e in cc

@@ -84,18 +84,18 @@ pub record IsValid (all : Segments) (d : NamedDevice) : Type 0 where
 -- The first rule that a file breaks as it is read, and where: a rule of its frame, an index out of
 -- its list.
 pub record BreaksFrame (message : Struct) (all : Segments) (rule : Rule) (place : Place) : Type 0
-    where
-  pub fault : FrameFault
-  pub found : reading_in_segments message all ≡ Err (frame fault)
-  pub rule_is : rule ≡ rule_of fault.rule
-  pub place_is : place ≡ places.At fault.segment fault.word
+  where
+    pub fault : FrameFault
+    pub found : reading_in_segments message all ≡ Err (frame fault)
+    pub rule_is : rule ≡ rule_of fault.rule
+    pub place_is : place ≡ places.At fault.segment fault.word
 
 pub record BreaksIndex (message : Struct) (all : Segments) (rule : Rule) (place : Place) : Type 0
-    where
-  pub item : Item
-  pub found : reading_in_segments message all ≡ Err (out_of_list item)
-  pub rule_is : rule ≡ I1
-  pub place_is : place ≡ places.Item item.kind item.field item.index
+  where
+    pub item : Item
+    pub found : reading_in_segments message all ≡ Err (out_of_list item)
+    pub rule_is : rule ≡ I1
+    pub place_is : place ≡ places.Item item.kind item.field item.index
 
 abbrev pub BreaksReading : (message : Struct) → Segments → Rule → Place → Type 0
 BreaksReading message all rule place =

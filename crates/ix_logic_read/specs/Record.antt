@@ -23,7 +23,8 @@ use Rattle.ix_rec.specs.declared.netlist.PortOwner.{PortOwner}
 use Rattle.ix_rec.specs.declared.netlist.PortOwner.TheVariants.{ExtPort, Inst}
 use Rattle.ix_rec.specs.declared.netlist.PropertyMap.{PropertyMap}
 use Rattle.ix_rec.specs.declared.netlist.PropertyValue.{PropertyValue}
-use Rattle.ix_rec.specs.declared.netlist.PropertyValue.TheVariants.{Text as IsTextValue, Int, Bool as IsBoolValue}
+use Rattle.ix_rec.specs.declared.netlist.PropertyValue.TheVariants.{Text as IsTextValue, Int}
+use Rattle.ix_rec.specs.declared.netlist.PropertyValue.TheVariants.{Bool as IsBoolValue}
 
 abbrev pub named : List Text → ℕ → Datum
 named names id = the_text (name_text names id)
@@ -143,7 +144,8 @@ pub record IsInstanceNamed (names : List Text) (decls : ℕ) (i : CellInstance) 
   pub cell : i.cell < decls
   pub prop_map : All (IsEntryNamed names) i.prop_map.entries
 
-pub record IsDeclarationNamed (names : List Text) (port_count : ℕ) (d : CellDeclaration) : Type 0 where
+pub record IsDeclarationNamed (names : List Text) (port_count : ℕ)
+    (d : CellDeclaration) : Type 0 where
   pub name : IsName names d.name
   pub ports : All (λ p. p < port_count) d.ports
 
@@ -159,7 +161,8 @@ pub record IsNetNamed (names : List Text) (ports insts : ℕ) (n : Net) : Type 0
   pub name : IsName names n.name
   pub port_insts : All (IsPortInstanceWithin ports insts) n.port_insts
 
-pub record IsCellNamed (names : List Text) (decls port_count inst_count : ℕ) (c : Cell) : Type 0 where
+pub record IsCellNamed (names : List Text) (decls port_count inst_count : ℕ)
+    (c : Cell) : Type 0 where
   pub index : c.index < decls
   pub insts : All (λ i. i < inst_count) c.insts
   pub nets : All (IsNetNamed names port_count inst_count) c.nets

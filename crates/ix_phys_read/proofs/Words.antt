@@ -16,7 +16,8 @@ kind_in_table (suc (suc (suc (suc (suc zero))))) h = refl
 kind_in_table (suc (suc (suc (suc (suc (suc zero)))))) h = absurd (h refl)
 kind_in_table (suc (suc (suc (suc (suc (suc (suc k))))))) h = refl
 
-pub field_in_table : (k field : ℕ) → (k ≡ 6 → ⊥) → field_text phys_structs k field ≡ field_word counted_structs k field
+pub field_in_table : (k field : ℕ) → (k ≡ 6 → ⊥)
+    → field_text phys_structs k field ≡ field_word counted_structs k field
 unfolding field_word
 field_in_table zero field h = refl
 field_in_table (suc zero) field h = refl

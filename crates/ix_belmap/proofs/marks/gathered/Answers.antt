@@ -1,4 +1,5 @@
-use Rattle.std.proofs.Common.{◌≡◌, ◌+◌, ◌++◌, [], ◌∷◌, refl, ap, sym, ◌∙◌, cond, length, take, append-nil, arith}
+use Rattle.std.proofs.Common.{◌≡◌, ◌+◌, ◌++◌, [], ◌∷◌, refl, ap, sym, ◌∙◌, cond, length, take}
+use Rattle.std.proofs.Common.{append-nil, arith}
 use Rattle.std.proofs.lemmas.List.{length_push}
 use Rattle.std.proofs.lemmas.Option.{slice_get_read}
 use Rattle.ix_belmap.specs.Marks.{free_of}
@@ -16,7 +17,8 @@ loop-i-init c =
 pub returns-then-len-gt-MOST-clause-group : goal.returns-then-len-gt-MOST-clause-group
 returns-then-len-gt-MOST-clause-group c =
     let short = c.loop-i.invariant.1 in
-    full c.args.device.now c.args.flat.now c.args.taken.now.items c.args.port_type c.args.row.now.items c.loop-i.i
+    full c.args.device.now c.args.flat.now c.args.taken.now.items c.args.port_type
+    c.args.row.now.items c.loop-i.i
     c.args.port c.loop-i.group.items c.loop-i.invariant.0 (omega arith)
 
 pub returns-then-len-gt-MOST-clause-looked : goal.returns-then-len-gt-MOST-clause-looked
@@ -32,8 +34,10 @@ pub loop-i-preserved : goal.loop-i-preserved
 loop-i-preserved c =
     let row = c.args.row.now.items in
     let group = c.loop-i.group.items in
-    let at = slice_get_read row (length row) c.loop-i.i c.index-cell.result.now refl (omega arith) c.index-cell.ensures in
-    let grown = free_more c.args.device.now c.args.flat.now c.args.taken.now.items c.args.port_type row c.loop-i.i
+    let at = slice_get_read row (length row) c.loop-i.i c.index-cell.result.now refl
+    (omega arith) c.index-cell.ensures in
+    let grown = free_more c.args.device.now c.args.flat.now c.args.taken.now.items c.args.port_type
+    row c.loop-i.i
     c.index-cell.result.now c.args.port group c.in_ok-is_free.field-0 at c.loop-i.invariant.0
     c.in_ok-is_free.ensures.free in
     elim c.if-branch.branch [
@@ -43,7 +47,8 @@ loop-i-preserved c =
           let long : length c.if-branch.group.items ≡ length group + 1
           = ap length pushed ∙ length_push group c.index-cell.result.now in
           let few = c.if-len-gt-MOST.false in (
-            pushed ∙ ap (λ b. group ++ cond b (c.index-cell.result.now ∷ []) []) (sym w.if-branch.true) ∙ grown,
+            pushed ∙ ap (λ b. group ++ cond b (c.index-cell.result.now ∷ []) [])
+                (sym w.if-branch.true) ∙ grown,
             omega arith,
             c.in_ok-is_free.ensures.known,
           )
@@ -52,7 +57,8 @@ loop-i-preserved c =
           let long : length c.if-branch.group.items ≡ length group = ap length kept in
           let few = c.loop-i.invariant.1 in (
             kept ∙ sym (append-nil group)
-                ∙ ap (λ b. group ++ cond b (c.index-cell.result.now ∷ []) []) (sym w.if-branch.false) ∙ grown,
+                ∙ ap (λ b. group ++ cond b (c.index-cell.result.now ∷ []) [])
+                (sym w.if-branch.false) ∙ grown,
             omega arith,
             c.in_ok-is_free.ensures.known,
           )
@@ -60,7 +66,8 @@ loop-i-preserved c =
 
 pub returns-clause-group : goal.returns-clause-group
 returns-clause-group c =
-    all_looked c.args.device.now c.args.flat.now c.args.taken.now.items c.args.port_type c.args.row.now.items c.loop-i.i
+    all_looked c.args.device.now c.args.flat.now c.args.taken.now.items c.args.port_type
+    c.args.row.now.items c.loop-i.i
     c.args.port c.loop-i.group.items c.loop-i.invariant.0 c.loop-i.invariant.1 (omega arith)
 
 pub returns-clause-looked : goal.returns-clause-looked
@@ -68,7 +75,8 @@ returns-clause-looked c =
     let le = c.loop-i.auto.i-end (let r = c.requires.from in omega arith) in
     let end : c.loop-i.i ≡ c.len-2.result = omega arith in
     c.loop-i.invariant.0
-    ∙ ap (λ n. c.args.port ∷ free_of c.args.device.now c.args.flat.now c.args.taken.now.items c.args.port_type
+    ∙ ap (λ n. c.args.port ∷ free_of c.args.device.now c.args.flat.now c.args.taken.now.items
+    c.args.port_type
     (take n c.args.row.now.items)) end
 
 pub returns-clause-known : goal.returns-clause-known

@@ -11,17 +11,21 @@ loop-i-init c = (refl, marks_none c.args.taken.now.items c.args.cells.now.items)
 pub index_mut-requires : goal.index_mut-requires
 index_mut-requires c =
     let cells = c.args.cells.now.items in
-    let at = slice_get_read cells (length cells) c.loop-i.i c.index.result.now refl (omega arith) c.index.ensures in
+    let at = slice_get_read cells (length cells) c.loop-i.i c.index.result.now refl
+    (omega arith) c.index.ensures in
     let lt : c.index.result.now < length c.args.taken.now.items
-    = among (λ cell. cell < length c.args.taken.now.items) cells c.loop-i.i c.index.result.now c.requires at in
+    = among (λ cell. cell < length c.args.taken.now.items) cells c.loop-i.i c.index.result.now
+    c.requires at in
     let same = c.loop-i.invariant.0 in let is = c.get.ensures in omega arith
 
 pub loop-i-preserved : goal.loop-i-preserved
 loop-i-preserved c =
     let cells = c.args.cells.now.items in
-    let at = slice_get_read cells (length cells) c.loop-i.i c.index.result.now refl (omega arith) c.index.ensures in
+    let at = slice_get_read cells (length cells) c.loop-i.i c.index.result.now refl
+    (omega arith) c.index.ensures in
     let lt : c.index.result.now < length c.args.taken.now.items
-    = among (λ cell. cell < length c.args.taken.now.items) cells c.loop-i.i c.index.result.now c.requires at in
+    = among (λ cell. cell < length c.args.taken.now.items) cells c.loop-i.i c.index.result.now
+    c.requires at in
     let same = c.loop-i.invariant.0 in let is = c.get.ensures in (
       length-set c.loop-i.taken.items c.get.result true ∙ same,
       marks_more cells c.args.taken.now.items c.loop-i.taken.items c.loop-i.i c.get.result

@@ -11,7 +11,8 @@ loop-cell-init c q = ap (λ m. get m q) c.new-fixed.ensures ∙ get-empty nat_cm
 pub loop-cell-preserved : goal.loop-cell-preserved
 loop-cell-preserved c = elim c.match-at.branch [
   | in-At+in_ok-insert w ↦
-      site_more c.args.all.now (get c.loop-cell.fixed) (get c.match-at.fixed) c.loop-cell.cell w.in-At.pin w.in-At.site
+      site_more c.args.all.now (get c.loop-cell.fixed)
+      (get c.match-at.fixed) c.loop-cell.cell w.in-At.pin w.in-At.site
       (c.at.ensures ∙ ap Some w.in-At.is) c.loop-cell.invariant
       (ap (get c.match-at.fixed) (sym w.new.ensures) ∙ ap (λ m. get m w.new.result) w.fixed-is
       ∙ w.in_ok-insert.ensures.value)
@@ -19,11 +20,14 @@ loop-cell-preserved c = elim c.match-at.branch [
       ∙ w.in_ok-insert.ensures.others q (λ e. differ (e ∙ w.new.ensures)))
   | in_default w ↦
       λ q. ap (λ m. get m q) w.fixed-is
-      ∙ site_none c.args.all.now (get c.loop-cell.fixed) c.loop-cell.cell c.at.result.now c.at.ensures
+      ∙ site_none c.args.all.now (get c.loop-cell.fixed) c.loop-cell.cell c.at.result.now
+      c.at.ensures
       w.in_default.not-At c.loop-cell.invariant q
 ]
 
 pub returns : goal.returns
 returns c =
-    let end : c.in_ok-cell-end.cell-end ≡ length c.args.all.now = c.in_ok-cell-end.ensures ∙ c.len.ensures in
-    sites_end c.args.all.now (get c.loop-cell.fixed) c.loop-cell.cell (omega arith) c.loop-cell.invariant
+    let end : c.in_ok-cell-end.cell-end ≡ length c.args.all.now =
+    c.in_ok-cell-end.ensures ∙ c.len.ensures in
+    sites_end c.args.all.now (get c.loop-cell.fixed) c.loop-cell.cell
+    (omega arith) c.loop-cell.invariant

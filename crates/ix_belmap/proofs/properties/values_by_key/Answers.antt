@@ -11,8 +11,12 @@ loop-i-init c key = c.new-values.ensures (name_key key) ∙ sym (value_start key
 pub loop-i-preserved : goal.loop-i-preserved
 loop-i-preserved c key =
     c.in_ok-put.ensures.values (name_key key)
-    ∙ ap (λ k. or_later (value_at c.loop-i.values (name_key key)) (key_eq k (name_key key)) c.at-entry.result.now.value) (c.of_name.ensures ∙ ap name_key c.get.ensures)
-    ∙ value_next c.args.properties.now c.loop-i.i c.at-entry.result.now (value_at c.loop-i.values (name_key key)) key c.at-entry.ensures (c.loop-i.invariant key)
+    ∙ ap (λ k. or_later (value_at c.loop-i.values (name_key key))
+    (key_eq k (name_key key)) c.at-entry.result.now.value)
+    (c.of_name.ensures ∙ ap name_key c.get.ensures)
+    ∙ value_next c.args.properties.now c.loop-i.i c.at-entry.result.now
+    (value_at c.loop-i.values (name_key key)) key c.at-entry.ensures (c.loop-i.invariant key)
 
 pub returns : goal.returns
-returns c key = c.loop-i.invariant key ∙ ap (λ l. value_of_key l key) (take_end c.args.properties.now c.loop-i.i (omega arith))
+returns c key = c.loop-i.invariant key ∙ ap (λ l. value_of_key l key)
+    (take_end c.args.properties.now c.loop-i.i (omega arith))

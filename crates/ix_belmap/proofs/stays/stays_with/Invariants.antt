@@ -4,4 +4,5 @@ use Rattle.ix_belmap.proofs.Staying.{test}
 use Rattle.ix_belmap.proofs.stays.stays_with.Given as goal
 
 abbrev pub invariant-loop-place : goal.invariant-loop-place
-invariant-loop-place l = list_all (test l.device l.fn.port_type l.fn.ty) (take l.place l.device.site_type_list) ≡ true
+invariant-loop-place l = list_all (test l.device l.fn.port_type l.fn.ty)
+    (take l.place l.device.site_type_list) ≡ true

@@ -14,7 +14,8 @@ pub add_table-requires : goal.add_table-requires
 add_table-requires c =
     let l = sound_list 6 (object_of c.args.root) 3 in
     let many = texts_length l.count l 0 in
-    let same : (text_elements c.sound_texts.result).count ≡ l.count = ap (λ (e : Elements). e.count) c.sound_texts.ensures in
+    let same : (text_elements c.sound_texts.result).count ≡ l.count =
+    ap (λ (e : Elements). e.count) c.sound_texts.ensures in
     let room = c.requires in
     omega arith
 
@@ -22,7 +23,8 @@ pub returns-in_err-strings-clause-most : goal.returns-in_err-strings-clause-most
 returns-in_err-strings-clause-most c =
     let l = sound_list 6 (object_of c.args.root) 3 in
     let many = texts_length l.count l 0 in
-    let same : (text_elements c.sound_texts.result).count ≡ l.count = ap (λ (e : Elements). e.count) c.sound_texts.ensures in
+    let same : (text_elements c.sound_texts.result).count ≡ l.count =
+    ap (λ (e : Elements). e.count) c.sound_texts.ensures in
     let most = c.in_err-strings.ensures.most in
     omega arith
 
@@ -30,7 +32,8 @@ pub add-requires : goal.add-requires
 add-requires c =
     let l = sound_list 6 (object_of c.args.root) 3 in
     let many = texts_length l.count l 0 in
-    let same : (text_elements c.sound_texts.result).count ≡ l.count = ap (λ (e : Elements). e.count) c.sound_texts.ensures in
+    let same : (text_elements c.sound_texts.result).count ≡ l.count =
+    ap (λ (e : Elements). e.count) c.sound_texts.ensures in
     let most = c.in_ok-strings.ensures.most in
     let room = c.requires in
     omega arith
@@ -39,7 +42,8 @@ pub returns-in_err-name-clause-most : goal.returns-in_err-name-clause-most
 returns-in_err-name-clause-most c =
     let l = sound_list 6 (object_of c.args.root) 3 in
     let many = texts_length l.count l 0 in
-    let same : (text_elements c.sound_texts.result).count ≡ l.count = ap (λ (e : Elements). e.count) c.sound_texts.ensures in
+    let same : (text_elements c.sound_texts.result).count ≡ l.count =
+    ap (λ (e : Elements). e.count) c.sound_texts.ensures in
     let most = c.in_ok-strings.ensures.most in
     let more = c.in_err-name.ensures.one_more in
     omega arith
@@ -48,20 +52,28 @@ pub returns-clause-adds : goal.returns-clause-adds
 returns-clause-adds c =
     let o = object_of c.args.root in
     let table : List Text = table_said netlist o in
-    let added : c.add_table.new.names ≡ with_names c.args.names.now table = subst (λ (l : Elements). c.add_table.new.names ≡ with_names c.args.names.now (texts_said l.count l 0)) c.sound_texts.ensures c.in_ok-strings.ensures.adds in
-    rw c.sound_text.ensures at c.in_ok-name.ensures.names ∙ ap (λ (names : List Text). with_name names (sound_text o 0)) added ∙ sym (with_names_on c.args.names.now table (sound_text o 0 ∷ []))
+    let added : c.add_table.new.names ≡ with_names c.args.names.now table =
+    subst (λ (l : Elements). c.add_table.new.names ≡ with_names c.args.names.now
+    (texts_said l.count l 0)) c.sound_texts.ensures c.in_ok-strings.ensures.adds in
+    rw c.sound_text.ensures at c.in_ok-name.ensures.names
+    ∙ ap (λ (names : List Text). with_name names (sound_text o 0)) added
+    ∙ sym (with_names_on c.args.names.now table (sound_text o 0 ∷ []))
 
 pub returns-clause-strings : goal.returns-clause-strings
 returns-clause-strings c =
     let table : List Text = table_said netlist (object_of c.args.root) in
-    let numbers = subst (λ (l : Elements). AreNumbersOf c.add_table.new.names c.in_ok-strings.strings (texts_said l.count l 0)) c.sound_texts.ensures c.in_ok-strings.ensures.numbers in
-    numbers_keep c.add_table.new.names c.add.new.self c.in_ok-name.ensures.keeps c.in_ok-strings.strings table numbers
+    let numbers = subst (λ (l : Elements). AreNumbersOf c.add_table.new.names
+    c.in_ok-strings.strings (texts_said l.count l 0)) c.sound_texts.ensures
+    c.in_ok-strings.ensures.numbers in
+    numbers_keep c.add_table.new.names c.add.new.self c.in_ok-name.ensures.keeps
+    c.in_ok-strings.strings table numbers
 
 pub returns-clause-most : goal.returns-clause-most
 returns-clause-most c =
     let l = sound_list 6 (object_of c.args.root) 3 in
     let many = texts_length l.count l 0 in
-    let same : (text_elements c.sound_texts.result).count ≡ l.count = ap (λ (e : Elements). e.count) c.sound_texts.ensures in
+    let same : (text_elements c.sound_texts.result).count ≡ l.count =
+    ap (λ (e : Elements). e.count) c.sound_texts.ensures in
     let most = c.in_ok-strings.ensures.most in
     let more = c.in_ok-name.ensures.one_more in
     omega arith

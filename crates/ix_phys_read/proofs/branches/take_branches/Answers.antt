@@ -1,4 +1,5 @@
-use Rattle.std.proofs.Common.{◌≡◌, ◌<◌, ◌≤◌, ◌+◌, ◌++◌, ◌∷◌, ◌∙◌, [], List, length, refl, sym, subst, arith, rules, ◌^◌}
+use Rattle.std.proofs.Common.{◌≡◌, ◌<◌, ◌≤◌, ◌+◌, ◌++◌, ◌∷◌, ◌∙◌, [], List, length, refl, sym}
+use Rattle.std.proofs.Common.{subst, arith, rules, ◌^◌}
 use Rattle.ix_phys_read.specs.Open.{Puts}
 use Rattle.std.proofs.lemmas.List.{length-append}
 use Rattle.std.proofs.lemmas.List.Elements.{All-nil, All-push}
@@ -17,7 +18,9 @@ use Rattle.ix_take.specs.Views.{table_of, Stops}
 use Rattle.ix_take.specs.Walked.{walked}
 use Rattle.ix_phys_read.specs.Walked.{counted_structs}
 use Rattle.ix_phys_read.proofs.Opened.{few_branches}
-use Rattle.ix_phys_read.proofs.Stacks.{begins, put_kept, put_length, one_done, one_stops, goes_on, depth_fits, depth_few, many, more, all_fit, all_made, nothing_in}
+use Rattle.ix_phys_read.proofs.Stacks.{begins, put_kept, put_length, one_done, one_stops, goes_on}
+use Rattle.ix_phys_read.proofs.Stacks.{depth_fits, depth_few, many, more, all_fit, all_made}
+use Rattle.ix_phys_read.proofs.Stacks.{nothing_in}
 use Rattle.ix_phys_read.proofs.Steps.{item_steps}
 use Rattle.ix_take.specs.Going.{stops_on}
 use Rattle.ix_phys_read.proofs.branches.take_branches.Goals as goal
@@ -46,23 +49,44 @@ returns-in_err-segment-clause-made c =
     let lists = only_table (length table) in
     let whole = branches_said segment (elements_of c.args.l) endless in
     let x = c.in-Some.top in
-    let p = err_from_is_err_and c.from_residual-in_err-segment.result c.from_residual-in_err-segment.ensures.1 in
-    let here : Stops counted_structs c.in_err-segment.field-0.0 (walked counted_structs c.loop-top.walk (item_steps lists (x.depth, row_at segment 0 (element_of (elements_of x.list) x.next)))) = rw c.at-o.ensures at c.in_err-segment.ensures.made in
-    rw (p.1, p.2) (stops_on counted_structs c.in_err-segment.field-0.0 (walked counted_structs c.loop-top.walk (item_steps lists (x.depth, row_at segment 0 (element_of (elements_of x.list) x.next)))) (walked counted_structs c.args.walk.now (branch_steps lists "RouteBranch" segment whole)) here (λ bad fails.
-    one_stops names table lists whole c.args.walk.now c.loop-top.stack.items c.pop.new.self.items x c.loop-top.found c.loop-top.walk bad c.in-Some.ensures.items (rw c.len.ensures at c.if-top-len.true) fails c.loop-top.invariant.taken))
+    let p = err_from_is_err_and c.from_residual-in_err-segment.result
+    c.from_residual-in_err-segment.ensures.1 in
+    let here : Stops counted_structs c.in_err-segment.field-0.0
+    (walked counted_structs c.loop-top.walk
+    (item_steps lists (x.depth, row_at segment 0 (element_of (elements_of x.list) x.next)))) =
+    rw c.at-o.ensures at c.in_err-segment.ensures.made in
+    rw (p.1, p.2) (stops_on counted_structs c.in_err-segment.field-0.0
+    (walked counted_structs c.loop-top.walk
+    (item_steps lists (x.depth, row_at segment 0 (element_of (elements_of x.list) x.next))))
+    (walked counted_structs c.args.walk.now (branch_steps lists "RouteBranch" segment whole))
+    here (λ bad fails.
+    one_stops names table lists whole c.args.walk.now c.loop-top.stack.items c.pop.new.self.items x
+    c.loop-top.found c.loop-top.walk bad c.in-Some.ensures.items
+    (rw c.len.ensures at c.if-top-len.true) fails c.loop-top.invariant.taken))
 
 pub push-requires : goal.push-requires
 push-requires c =
     let table = table_of c.args.ctx.now in
-    depth_fits c.args.ctx.now.names.now table (only_table (length table)) (branches_said segment (elements_of c.args.l) endless) c.args.walk.now c.loop-top.stack.items c.pop.new.self.items c.in-Some.top c.loop-top.found c.loop-top.walk c.in-Some.ensures.items (rw c.len.ensures at c.if-top-len.true) c.loop-top.invariant.taken
+    depth_fits c.args.ctx.now.names.now table (only_table (length table))
+    (branches_said segment (elements_of c.args.l) endless) c.args.walk.now
+    c.loop-top.stack.items c.pop.new.self.items c.in-Some.top c.loop-top.found c.loop-top.walk
+    c.in-Some.ensures.items (rw c.len.ensures at c.if-top-len.true) c.loop-top.invariant.taken
 
 pub overflow_add-top-then-top-len : goal.overflow_add-top-then-top-len
 overflow_add-top-then-top-len c =
     let table = table_of c.args.ctx.now in
     let whole = branches_said segment (elements_of c.args.l) endless in
-    let deep : c.in-Some.top.depth ≤ length c.loop-top.found = depth_few c.args.ctx.now.names.now table (only_table (length table)) whole c.args.walk.now c.loop-top.stack.items c.pop.new.self.items c.in-Some.top c.loop-top.found c.loop-top.walk c.in-Some.ensures.items (rw c.len.ensures at c.if-top-len.true) c.loop-top.invariant.taken in
-    let all : length c.loop-top.found ≤ length (preorder 0 whole) = many c.args.ctx.now.names.now table (only_table (length table)) whole c.args.walk.now c.loop-top.stack.items c.loop-top.found c.loop-top.walk c.loop-top.invariant.taken in
-    let most : length (preorder 0 whole) ≤ 2 ^ 28 + 64 = few_branches (elements_of c.args.l) 0 whole c.requires in
+    let deep : c.in-Some.top.depth ≤ length c.loop-top.found =
+    depth_few c.args.ctx.now.names.now table
+    (only_table (length table)) whole c.args.walk.now c.loop-top.stack.items
+    c.pop.new.self.items c.in-Some.top c.loop-top.found c.loop-top.walk c.in-Some.ensures.items
+    (rw c.len.ensures at c.if-top-len.true) c.loop-top.invariant.taken in
+    let all : length c.loop-top.found ≤ length (preorder 0 whole) =
+    many c.args.ctx.now.names.now table
+    (only_table (length table)) whole c.args.walk.now c.loop-top.stack.items c.loop-top.found
+    c.loop-top.walk c.loop-top.invariant.taken in
+    let most : length (preorder 0 whole) ≤ 2 ^ 28 + 64 =
+    few_branches (elements_of c.args.l) 0 whole c.requires in
     let few : c.in-Some.top.depth + 1 < 2 ^ 32 = omega arith in search rules
 
 pub loop-top-smaller-in-Continue-branch-5 : goal.loop-top-smaller-in-Continue-branch-5
@@ -111,7 +135,10 @@ pub loop-top-preserved : goal.loop-top-preserved
 loop-top-preserved c =
     let table = table_of c.args.ctx.now in
     record {
-      taken = one_done c.args.ctx.now.names.now table (only_table (length table)) (branches_said segment (elements_of c.args.l) endless) c.args.walk.now c.loop-top.stack.items c.pop.new.self.items c.in-Some.top c.loop-top.found c.loop-top.walk c.in-Some.ensures.items (omega arith) c.loop-top.invariant.taken;
+      taken = one_done c.args.ctx.now.names.now table (only_table (length table))
+          (branches_said segment (elements_of c.args.l) endless) c.args.walk.now
+          c.loop-top.stack.items c.pop.new.self.items c.in-Some.top c.loop-top.found c.loop-top.walk
+          c.in-Some.ensures.items (omega arith) c.loop-top.invariant.taken;
       named = c.loop-top.invariant.named;
     }
 
@@ -121,8 +148,11 @@ returns-clause-made c =
     let table = table_of c.args.ctx.now in
     let lists = only_table (length table) in
     let whole = branches_said segment (elements_of c.args.l) endless in
-    let none : length c.loop-top.stack.items ≡ 0 = sym c.loop-top.stack.ok.0 ∙ c.in_default.ensures.cases.0 in
+    let none : length c.loop-top.stack.items ≡ 0 =
+    sym c.loop-top.stack.ok.0 ∙ c.in_default.ensures.cases.0 in
     let empty = nothing_in c.loop-top.stack.items none in (
-      all_made names table lists whole c.args.walk.now c.loop-top.stack.items c.loop-top.found c.loop-top.walk empty c.loop-top.invariant.taken,
-      all_fit names table lists whole c.args.walk.now c.loop-top.stack.items c.loop-top.found c.loop-top.walk empty c.loop-top.invariant.taken,
+      all_made names table lists whole c.args.walk.now c.loop-top.stack.items c.loop-top.found
+          c.loop-top.walk empty c.loop-top.invariant.taken,
+      all_fit names table lists whole c.args.walk.now c.loop-top.stack.items c.loop-top.found
+          c.loop-top.walk empty c.loop-top.invariant.taken,
     )

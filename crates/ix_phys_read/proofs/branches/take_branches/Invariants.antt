@@ -13,9 +13,11 @@ use Rattle.ix_phys_read.proofs.branches.take_branches.Given as goal
 
 abbrev pub invariant-loop-top : goal.invariant-loop-top
 invariant-loop-top l = record {
-  taken : Taken l.ctx.names.now (table_of l.ctx) (only_table (length (table_of l.ctx))) (branches_said segment (elements_of l.l) endless) l.fn.walk l.stack.items l.found l.walk;
+  taken : Taken l.ctx.names.now (table_of l.ctx) (only_table (length (table_of l.ctx)))
+      (branches_said segment (elements_of l.l) endless) l.fn.walk l.stack.items l.found l.walk;
   named : All (IsSegmentNamed l.ctx.names.now) l.found;
 }
 
 abbrev pub decreases-loop-top : goal.decreases-loop-top
-decreases-loop-top l = 2 * (length (preorder 0 (branches_said segment (elements_of l.l) endless)) - length l.found) + length l.stack.items
+decreases-loop-top l = 2 * (length (preorder 0 (branches_said segment (elements_of l.l) endless)) -
+    length l.found) + length l.stack.items

@@ -10,4 +10,5 @@ returns-then-kind-eq-BRANCH c = rw c.if-kind-eq-BRANCH.true refl
 
 pub returns-else-kind-eq-BRANCH : goal.returns-else-kind-eq-BRANCH
 returns-else-kind-eq-BRANCH c =
-    c.name.ensures phys_structs c.phys_table.ensures.names ∙ kind_in_table c.args.kind c.if-kind-eq-BRANCH.false
+    c.name.ensures phys_structs c.phys_table.ensures.names
+    ∙ kind_in_table c.args.kind c.if-kind-eq-BRANCH.false

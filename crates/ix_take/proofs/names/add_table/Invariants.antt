@@ -7,8 +7,10 @@ use Rattle.ix_take.proofs.names.add_table.Given as goal
 
 abbrev pub invariant-loop-i : goal.invariant-loop-i
 invariant-loop-i l = record {
-  adds : l.names ≡ with_names l.fn.names (take l.i (texts_said (text_elements l.l).count (text_elements l.l) 0));
-  numbers : AreNumbersOf l.names l.found (take l.i (texts_said (text_elements l.l).count (text_elements l.l) 0));
+  adds : l.names ≡ with_names l.fn.names (take l.i
+      (texts_said (text_elements l.l).count (text_elements l.l) 0));
+  numbers : AreNumbersOf l.names l.found (take l.i
+      (texts_said (text_elements l.l).count (text_elements l.l) 0));
   keeps : KeepsNumbers l.fn.names l.names;
   most : length l.names ≤ length l.fn.names + l.i;
 }

@@ -7,4 +7,5 @@ use Rattle.ix_logic_read.proofs.context.NetlistContext.decl_count.Goals as goal
 
 pub returns : goal.returns
 unfolding lists_in
-returns c = c.len.ensures ∙ sym (entries_length cell_declaration (elements_of c.args.self.now.decls))
+returns c = c.len.ensures ∙ sym (entries_length cell_declaration
+    (elements_of c.args.self.now.decls))

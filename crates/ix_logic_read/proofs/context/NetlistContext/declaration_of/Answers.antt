@@ -11,11 +11,14 @@ use Rattle.ix_logic_read.proofs.context.NetlistContext.declaration_of.Goals as g
 
 pub at-requires : goal.at-requires
 unfolding lists_in
-at-requires c = subst (λ (n : ℕ). c.args.inst < n) (entries_length cell_instance (elements_of c.args.self.now.insts)) c.requires
+at-requires c = subst (λ (n : ℕ). c.args.inst < n)
+    (entries_length cell_instance (elements_of c.args.self.now.insts)) c.requires
 
 pub returns : goal.returns
 unfolding lists_in said row_at
 returns c =
     let l = elements_of c.args.self.now.insts in
-    let lt : c.args.inst < l.count = subst (λ (n : ℕ). c.args.inst < n) (entries_length cell_instance l) c.requires in
-    rw (c.at.ensures) at c.u32_at.ensures ∙ ap (λ (e : Entry). slice_index e.row 1) (sym (entry_there cell_instance l c.args.inst lt))
+    let lt : c.args.inst < l.count = subst (λ (n : ℕ). c.args.inst < n)
+    (entries_length cell_instance l) c.requires in
+    rw (c.at.ensures) at c.u32_at.ensures
+    ∙ ap (λ (e : Entry). slice_index e.row 1) (sym (entry_there cell_instance l c.args.inst lt))

@@ -8,4 +8,5 @@ pub returns : goal.returns
 unfolding lists_in
 returns c =
     let lt : c.args.port < 2 ^ 32 = c.ranges.port.fits in
-    rw c.pin.ensures at c.has.ensures ∙ held_there c.args.self.now.held (elements_of c.args.self.now.decls) c.args.decl c.args.port c.args.self.now.held_are lt
+    rw c.pin.ensures at c.has.ensures ∙ held_there c.args.self.now.held
+    (elements_of c.args.self.now.decls) c.args.decl c.args.port c.args.self.now.held_are lt

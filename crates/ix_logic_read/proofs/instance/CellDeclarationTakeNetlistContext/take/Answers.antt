@@ -18,19 +18,27 @@ unfolding kind_word field_word lists_in
 returns-in_err-ports-clause-made c =
     let l = lists_in c.args.ctx.now in
     let o = object_of c.args.o in
-    let p = err_from_is_err_and c.from_residual-in_err-ports.result c.from_residual-in_err-ports.ensures.1 in
-    let ns : numbers_of c.sound_numbers.result ≡ numbers_in (sound_list 4 o 0) = ap numbers_in c.sound_numbers.ensures in
-    let walk = decl_walk l o c.args.walk.now c.begin.new.self c.begin.ensures c.in_ok-name.ensures.made.0 in
-    rw (p.1, p.2, walk) (each_stops netlist_structs c.begin.new.self "CellDeclaration" "ports" 2 1 (length l.port_list) (numbers_in (sound_list 4 o 0)) c.in_err-ports.field-0.0 (rw (ns, c.port_count.ensures) at c.in_err-ports.ensures.made) refl refl refl)
+    let p = err_from_is_err_and c.from_residual-in_err-ports.result
+    c.from_residual-in_err-ports.ensures.1 in
+    let ns : numbers_of c.sound_numbers.result ≡ numbers_in (sound_list 4 o 0) =
+    ap numbers_in c.sound_numbers.ensures in
+    let walk = decl_walk l o c.args.walk.now c.begin.new.self c.begin.ensures
+    c.in_ok-name.ensures.made.0 in
+    rw (p.1, p.2, walk) (each_stops netlist_structs c.begin.new.self "CellDeclaration" "ports" 2 1
+    (length l.port_list) (numbers_in (sound_list 4 o 0)) c.in_err-ports.field-0.0
+    (rw (ns, c.port_count.ensures) at c.in_err-ports.ensures.made) refl refl refl)
 
 pub returns-clause-made : goal.returns-clause-made
 unfolding record_of said row_at lists_in
 returns-clause-made c =
     let l = lists_in c.args.ctx.now in
     let o = object_of c.args.o in
-    let ns : numbers_of c.sound_numbers.result ≡ numbers_in (sound_list 4 o 0) = ap numbers_in c.sound_numbers.ensures in
-    let walk = decl_walk l o c.args.walk.now c.begin.new.self c.begin.ensures c.in_ok-name.ensures.made.0 in
+    let ns : numbers_of c.sound_numbers.result ≡ numbers_in (sound_list 4 o 0) =
+    ap numbers_in c.sound_numbers.ensures in
+    let walk = decl_walk l o c.args.walk.now c.begin.new.self c.begin.ensures
+    c.in_ok-name.ensures.made.0 in
     let made = rw (ns, c.port_count.ensures) at c.in_ok-ports.ensures.made in (
       rw (c.in_ok-name.ensures.made.1, made.0) refl,
-      walk ∙ each_fits netlist_structs c.begin.new.self "CellDeclaration" "ports" (length l.port_list) (numbers_in (sound_list 4 o 0)) made.1,
+      walk ∙ each_fits netlist_structs c.begin.new.self "CellDeclaration" "ports"
+          (length l.port_list) (numbers_in (sound_list 4 o 0)) made.1,
     )

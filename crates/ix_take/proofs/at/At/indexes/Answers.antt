@@ -11,11 +11,16 @@ pub loop-i-preserved : goal.loop-i-preserved
 loop-i-preserved c =
     let ns = numbers_of c.args.l in
     let lt : c.loop-i.i < length ns = omega arith in
-    let more : take (c.loop-i.i + 1) ns ≡ take c.loop-i.i ns ++ slice_index ns c.loop-i.i ∷ [] = take_more ns c.loop-i.i 0 lt in
-    let below : slice_index ns c.loop-i.i < c.args.many = omega (arith, c.at-n.ensures, c.if-n-many.false) in
+    let more : take (c.loop-i.i + 1) ns ≡ take c.loop-i.i ns ++ slice_index ns c.loop-i.i ∷ [] =
+    take_more ns c.loop-i.i 0 lt in
+    let below : slice_index ns c.loop-i.i < c.args.many =
+    omega (arith, c.at-n.ensures, c.if-n-many.false) in
     let test : nat_lt (slice_index ns c.loop-i.i) c.args.many ≡ true = grind (arith, nat_tests) in
     record {
       found = rw (c.in_ok-push.ensures.ok, more, c.loop-i.invariant.found, c.at-n.ensures) refl;
-      fit = rw more (list_all-append (λ n. nat_lt n c.args.many) (take c.loop-i.i ns) (slice_index ns c.loop-i.i ∷ []) ∙ rw (c.loop-i.invariant.fit, test) refl);
-      below = rw c.in_ok-push.ensures.ok (All-push (λ n. n < c.args.many) c.loop-i.found c.at-n.result c.loop-i.invariant.below (rw c.at-n.ensures below));
+      fit = rw more (list_all-append (λ n. nat_lt n c.args.many) (take c.loop-i.i ns)
+          (slice_index ns c.loop-i.i ∷ []) ∙ rw (c.loop-i.invariant.fit, test) refl);
+      below = rw c.in_ok-push.ensures.ok (All-push
+          (λ n. n < c.args.many) c.loop-i.found c.at-n.result c.loop-i.invariant.below
+          (rw c.at-n.ensures below));
     }

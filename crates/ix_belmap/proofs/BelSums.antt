@@ -1,6 +1,6 @@
 -- The BELs of a site type, and the sites of one, one by one.
-use Rattle.std.proofs.Common.{◌≡◌, ◌≢◌, refl, ap, sym, ◌∙◌, IfSome, ℕ, zero, suc, ◌+◌, ◌*◌, ◌<◌, ◌≤◌, ◌^◌, List, [], ◌∷◌, length, get_or, replicate, set, slice_get, Option, Some, None, is_some, option_map, option_and_then, unwrap_or, Bool, true, false, cond, nat_eq, arith}
-use Rattle.std.proofs.lemmas.Bool.{eqb-true, eqb-false}
+use Rattle.std.proofs.Common.{◌≡◌, ◌≢◌, refl, ap, sym, subst, ◌∙◌, IfSome, ℕ, zero, suc, ◌+◌, ◌*◌, ◌<◌, ◌≤◌, ◌^◌, List, [], ◌∷◌, length, get_or, replicate, set, slice_get, Option, Some, None, is_some, option_map, option_and_then, unwrap_or, Bool, true, false, cond, not, nat_eq, nat_lt, arith}
+use Rattle.std.proofs.lemmas.Bool.{eqb-true, eqb-false, lt-ltb}
 use Rattle.std.proofs.Math.Nat.{mul-le-mul_left}
 use Rattle.std.proofs.lemmas.List.{get_or-set_same, get_or-set_other}
 use Rattle.std.proofs.lemmas.Option.{none-some}
@@ -10,10 +10,11 @@ use Rattle.ix_rec.specs.declared.device.SiteType.{SiteType}
 use Rattle.ix_device.specs.Admission.{pins_in}
 use Rattle.ix_device.specs.Lookups.{in_type, sites_of, type_of_site}
 use Rattle.ix_device.proofs.Inside.{type_is_there}
-use Rattle.ix_belmap.specs.Counts.{admits, bels_at, bels_in_type, bels_of_device, count_below, sum_below}
-use Rattle.ix_belmap.specs.Sites.{is_of_type, sites_of_type}
+use Rattle.ix_belmap.specs.Counts.{admits, bels_at, bels_in_type, bels_of_device}
+use Rattle.ix_belmap.specs.Groups.{is_home}
+use Rattle.ix_belmap.specs.Sites.{count_below, is_of_type, sites_of_type, sum_below}
 use Rattle.ix_belmap.proofs.Counting.{count_next}
-use Rattle.ix_belmap.proofs.Sums.{of_first, one_more_type, no_type, all_types, sum_most, first_most}
+use Rattle.ix_belmap.proofs.Sums.{is_count, is_sum, of_first, one_more_type, no_type, all_types, sum_most, first_most}
 
 -- a BEL of a site type admits a cell type
 abbrev pub takes_in : DeviceRec → (ty t bel : ℕ) → Bool
@@ -41,6 +42,7 @@ count_most p (suc n) = by (p n) (count_most p n)
 pub all_counted : (rec : DeviceRec) (ty t : ℕ) (u : SiteType) (n : ℕ) → slice_get rec.site_type_list t ≡ Some u → n ≡ length u.bels → count_below (takes_in rec ty t) n ≡ bels_in_type rec ty u
 unfolding bels_in_type
 all_counted rec ty t u n at is = count_same (takes_in rec ty t) (admits rec ty u) n (λ b. ap (λ o. is_some (option_and_then (pins_in rec ty b) o)) at) ∙ ap (count_below (admits rec ty u)) is
+    ∙ is_count (admits rec ty u) (length u.bels)
 
 -- how many BELs of the site type of this number admit the cell type
 abbrev pub bels_of : DeviceRec → (ty t : ℕ) → ℕ
@@ -67,6 +69,7 @@ unfolding bels_of_device bels_at
 bels_end rec ty fits =
     all_types (bels_of rec ty) (type_of_site rec) (length rec.site_type_list) (length (sites_of rec)) (λ s t lt e. type_is_there rec fits s t e)
     ∙ sum_alike (λ s. unwrap_or (option_map (bels_of rec ty) (type_of_site rec s)) 0) (bels_at rec ty) (length (sites_of rec)) (λ s. by (type_of_site rec s))
+    ∙ is_sum (bels_at rec ty) (length (sites_of rec))
   where
     by : (o : Option ℕ) → unwrap_or (option_map (bels_of rec ty) o) 0 ≡ unwrap_or (option_map (bels_in_type rec ty) (option_and_then (λ t. slice_get rec.site_type_list t) o)) 0
     by None = refl
@@ -149,3 +152,20 @@ pub zeros : (n t : ℕ) → get_or {A = ℕ} (replicate n 0) t 0 ≡ 0
 zeros zero t = refl
 zeros (suc n) zero = refl
 zeros (suc n) (suc t) = zeros n t
+
+-- whether a site type has a BEL that admits the cell type
+pub home_told : (rec : DeviceRec) (ty t place n : ℕ) → IfSome (slice_get rec.site_type_list t) (λ seen. n ≡ bels_in_type rec ty seen) → t ≡ place
+    → IfSome (slice_get rec.site_type_list place) (λ seen. nat_lt 0 n ≡ is_home rec ty seen)
+home_told rec ty t place n told same = subst (λ k. IfSome (slice_get rec.site_type_list k) (λ seen. nat_lt 0 n ≡ is_home rec ty seen)) same (by (slice_get rec.site_type_list t) told)
+  where
+    some : (m : ℕ) → nat_lt 0 m ≡ not (nat_eq m 0)
+    some zero = refl
+    some (suc m) = lt-ltb 0 (suc m) (omega arith) ∙ sym (ap not (no_zero (nat_eq (suc m) 0) refl))
+      where
+        no_zero : (b : Bool) → nat_eq (suc m) 0 ≡ b → b ≡ false
+        no_zero false e = refl
+        no_zero true e = let is : suc m ≡ 0 = eqb-true (suc m) 0 e in absurd (omega arith)
+
+    by : (o : Option SiteType) → IfSome o (λ seen. n ≡ bels_in_type rec ty seen) → IfSome o (λ seen. nat_lt 0 n ≡ is_home rec ty seen)
+    by None h = tt
+    by (Some u) h = some n ∙ ap (λ m. not (nat_eq m 0)) h

@@ -7,7 +7,8 @@ use Rattle.ix_first.specs.First.{or_later}
 use Rattle.ix_rec.specs.declared.device.DeviceRec.{DeviceRec}
 use Rattle.ix_rec.specs.declared.flow.FlatCell.{FlatCell}
 use Rattle.std.proofs.lemmas.List.{length-take-le}
-use Rattle.ix_belmap.specs.Counts.{count_below, cells_of_type, AreEnough}
+use Rattle.ix_belmap.specs.Counts.{cells_of_type, AreEnough}
+use Rattle.ix_belmap.specs.Sites.{count_below}
 
 pub count_next : (p : ℕ → Bool) (n : ℕ) → count_below p (n + 1) ≡ count_below p n + cond (p n) 1 0
 unfolding count_below

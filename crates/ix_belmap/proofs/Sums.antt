@@ -1,7 +1,35 @@
 -- Sums over the sites of a device, by site type.
-use Rattle.std.proofs.Common.{◌≡◌, ◌≢◌, refl, ap, sym, ◌∙◌, ℕ, zero, suc, ◌+◌, ◌*◌, ◌<◌, ◌≤◌, Bool, true, false, cond, nat_eq, nat_lt, Option, Some, None, option_map, unwrap_or, arith}
+use Rattle.std.proofs.Common.{◌≡◌, ◌≢◌, refl, ap, sym, ◌∙◌, ℕ, zero, suc, ◌+◌, ◌*◌, ◌<◌, ◌≤◌, [], ◌∷◌, ◌++◌, Bool, true, false, cond, nat_eq, nat_lt, Option, Some, None, option_map, unwrap_or, arith}
 use Rattle.std.proofs.lemmas.Bool.{eqb-true, eqb-false, ltb-true, ltb-false, lt-ltb, le-ltb}
-use Rattle.ix_belmap.specs.Counts.{count_below, sum_below}
+use Rattle.std.specs.List.{count_by, range_with_len, sum_by}
+use Rattle.std.proofs.lemmas.List.Sums.{sum_by-append, sum_by-cons}
+use Rattle.ix_belmap.specs.Sites.{count_below, sum_below}
+use Rattle.ix_belmap.proofs.Rows.{range_next}
+
+-- sums and counts of the numbers below one are those of their list
+pub is_sum : (f : ℕ → ℕ) (n : ℕ) → sum_below f n ≡ sum_by f (range_with_len 0 n)
+unfolding sum_below
+is_sum f zero = refl
+is_sum f (suc n) =
+    let below = is_sum f n in
+    let cut : sum_by f (range_with_len 0 (suc n)) ≡ sum_by f (range_with_len 0 n ++ n ∷ [])
+    = ap (sum_by f) (range_next 0 n n (omega arith)) in
+    let joined = sum_by-append f (range_with_len 0 n) (n ∷ []) in
+    let one = sum_by-cons f n [] in
+    let none : sum_by f [] ≡ 0 = refl in
+    omega arith
+
+pub is_count : (test : ℕ → Bool) (n : ℕ) → count_below test n ≡ count_by test (range_with_len 0 n)
+unfolding count_below
+is_count test zero = refl
+is_count test (suc n) =
+    let below = is_count test n in
+    let cut : count_by test (range_with_len 0 (suc n)) ≡ count_by test (range_with_len 0 n ++ n ∷ [])
+    = ap (count_by test) (range_next 0 n n (omega arith)) in
+    let joined = sum_by-append (λ k. cond (test k) 1 0) (range_with_len 0 n) (n ∷ []) in
+    let one = sum_by-cons (λ k. cond (test k) 1 0) n [] in
+    let none : count_by test [] ≡ 0 = refl in
+    omega arith
 
 -- what the first so many types give
 abbrev pub of_first : (f : ℕ → ℕ) → (count : ℕ) → Option ℕ → ℕ

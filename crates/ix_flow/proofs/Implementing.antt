@@ -18,6 +18,7 @@ use Rattle.ix_first_form.specs.FirstCells.{cell_seen}
 use Rattle.ix_first_fit.specs.declared.cell.Cell.{Cell}
 use Rattle.ix_first_fit.specs.declared.cell.Spot.{Spot}
 use Rattle.ix_first_fit.specs.Spots.{admits}
+use Rattle.ix_first_fit.specs.Netlist.{IsPinMap}
 use Rattle.ix_first_fit.specs.Laws.{IsOnPlace, HasOwnPlaces}
 use Rattle.ix_job.specs.Outside.{Outside, is_done, stands}
 use Rattle.ix_job.specs.Job.{Content, Outcome, AreContents, with_files, IsJobRun, IsAnswered}
@@ -34,32 +35,53 @@ use Rattle.ix_flow.specs.Implements.{NamesPlace, KeepsNames, KeepsPlaces, placed
 use Rattle.ix_flow.specs.Implements.{HasImplemented, IsImplemented}
 use Rattle.ix_flow.proofs.Outputs.{answer_refuses}
 
--- a report of a refusal isn't of status 0
-not_done : (report : Report) → is_done report ≡ false → status_of report ≡ stat.Done → ⊥
-not_done (a_report.Packed cells clusters) h e = let bad : true ≡ false = h in cc
-not_done (a_report.Placed clusters length) h e = let bad : true ≡ false = h in cc
-not_done (a_report.Routed nets pips rounds) h e = let bad : true ≡ false = h in cc
-not_done (a_report.Implemented cells clusters nets pips trial rounds) h e = let bad : true ≡ false =
-    h in cc
-not_done (a_report.Yes derived) h e = let bad : true ≡ false = h in cc
-not_done (a_report.No rule place) h e = let bad : stat.No rule place ≡ stat.Done = e in cc
-not_done (a_report.Demo number luts flip_flops ports) h e = let bad : true ≡ false = h in cc
-not_done a_report.Usage h e = let bad : stat.Usage ≡ stat.Done = e in cc
-not_done (a_report.Bad file rule place) h e = let bad : stat.Bad file rule place ≡ stat.Done = e in
-    cc
-not_done (a_report.NotBuilt file) h e = let bad : stat.NotBuilt file ≡ stat.Done = e in cc
-not_done a_report.TooLong h e = let bad : stat.TooLong ≡ stat.Done = e in cc
-not_done (a_report.TooFewBels kind cells bels) h e =
-    let bad : stat.TooFewBels kind cells bels ≡ stat.Done = e in cc
-not_done (a_report.Unpackable cell) h e = let bad : stat.Unpackable cell ≡ stat.Done = e in cc
-not_done (a_report.NoSite cell) h e = let bad : stat.NoSite cell ≡ stat.Done = e in cc
-not_done (a_report.Unreachable net node) h e = let bad : stat.Unreachable net node ≡ stat.Done =
-    e in cc
-not_done (a_report.Congested node a b rounds trial) h e =
-    let bad : stat.Congested node a b rounds trial ≡ stat.Done = e in cc
-not_done (a_report.ReadFault file) h e = let bad : stat.ReadFault file ≡ stat.Done = e in cc
-not_done (a_report.WriteFault file) h e = let bad : stat.WriteFault file ≡ stat.Done = e in cc
-not_done a_report.OutOfMemory h e = let bad : stat.OutOfMemory ≡ stat.Done = e in cc
+-- a report of status 0 is of a job that is done
+is_of_done : (report : Report) → status_of report ≡ stat.Done → is_done report ≡ true
+is_of_done (a_report.Packed cells clusters) e = refl
+is_of_done (a_report.Placed clusters length) e = refl
+is_of_done (a_report.Routed nets pips rounds) e = refl
+is_of_done (a_report.Implemented cells clusters nets pips trial rounds) e = refl
+is_of_done (a_report.Yes derived) e = refl
+is_of_done (a_report.No rule place) e = refl
+is_of_done (a_report.Demo number luts flip_flops ports) e = refl
+is_of_done a_report.Usage e = let bad : stat.Usage ≡ stat.Done = e in cc
+is_of_done (a_report.Bad file rule place) e = let bad : stat.Bad file rule place ≡ stat.Done = e in cc
+is_of_done (a_report.NotBuilt file) e = let bad : stat.NotBuilt file ≡ stat.Done = e in cc
+is_of_done a_report.TooLong e = let bad : stat.TooLong ≡ stat.Done = e in cc
+is_of_done (a_report.TooFewBels kind cells bels) e = let bad : stat.TooFewBels kind cells bels ≡ stat.Done = e in cc
+is_of_done (a_report.Unpackable cell) e = let bad : stat.Unpackable cell ≡ stat.Done = e in cc
+is_of_done (a_report.NoSite cell) e = let bad : stat.NoSite cell ≡ stat.Done = e in cc
+is_of_done (a_report.Unreachable net node) e = let bad : stat.Unreachable net node ≡ stat.Done = e in cc
+is_of_done (a_report.Congested node a b rounds trial) e = let bad : stat.Congested node a b rounds trial ≡ stat.Done = e in cc
+is_of_done (a_report.ReadFault file) e = let bad : stat.ReadFault file ≡ stat.Done = e in cc
+is_of_done (a_report.WriteFault file) e = let bad : stat.WriteFault file ≡ stat.Done = e in cc
+is_of_done a_report.OutOfMemory e = let bad : stat.OutOfMemory ≡ stat.Done = e in cc
+
+-- and none is of a fault at printing
+no_put_fault : (report : Report) → status_of report ≡ stat.PutFault → ⊥
+no_put_fault (a_report.Packed cells clusters) e = let bad : stat.Done ≡ stat.PutFault = e in cc
+no_put_fault (a_report.Placed clusters length) e = let bad : stat.Done ≡ stat.PutFault = e in cc
+no_put_fault (a_report.Routed nets pips rounds) e = let bad : stat.Done ≡ stat.PutFault = e in cc
+no_put_fault (a_report.Implemented cells clusters nets pips trial rounds) e = let bad : stat.Done ≡ stat.PutFault = e in cc
+no_put_fault (a_report.Yes derived) e = let bad : stat.Done ≡ stat.PutFault = e in cc
+no_put_fault (a_report.No rule place) e = let bad : stat.No rule place ≡ stat.PutFault = e in cc
+no_put_fault (a_report.Demo number luts flip_flops ports) e = let bad : stat.Done ≡ stat.PutFault = e in cc
+no_put_fault a_report.Usage e = let bad : stat.Usage ≡ stat.PutFault = e in cc
+no_put_fault (a_report.Bad file rule place) e = let bad : stat.Bad file rule place ≡ stat.PutFault = e in cc
+no_put_fault (a_report.NotBuilt file) e = let bad : stat.NotBuilt file ≡ stat.PutFault = e in cc
+no_put_fault a_report.TooLong e = let bad : stat.TooLong ≡ stat.PutFault = e in cc
+no_put_fault (a_report.TooFewBels kind cells bels) e = let bad : stat.TooFewBels kind cells bels ≡ stat.PutFault = e in cc
+no_put_fault (a_report.Unpackable cell) e = let bad : stat.Unpackable cell ≡ stat.PutFault = e in cc
+no_put_fault (a_report.NoSite cell) e = let bad : stat.NoSite cell ≡ stat.PutFault = e in cc
+no_put_fault (a_report.Unreachable net node) e = let bad : stat.Unreachable net node ≡ stat.PutFault = e in cc
+no_put_fault (a_report.Congested node a b rounds trial) e = let bad : stat.Congested node a b rounds trial ≡ stat.PutFault = e in cc
+no_put_fault (a_report.ReadFault file) e = let bad : stat.ReadFault file ≡ stat.PutFault = e in cc
+no_put_fault (a_report.WriteFault file) e = let bad : stat.WriteFault file ≡ stat.PutFault = e in cc
+no_put_fault a_report.OutOfMemory e = let bad : stat.OutOfMemory ≡ stat.PutFault = e in cc
+
+-- a done report isn't a refusal
+not_refused : (report : Report) → is_done report ≡ true → is_done report ≡ false → ⊥
+not_refused report done refused = let bad : true ≡ false = sym done ∙ refused in cc
 
 -- what holds of each cell with its place and its placement gives equal lists
 same_maps : {A : Type 0} (f : CellPlacement → A) (g : Cell → A) (cells : List Cell)
@@ -106,11 +128,18 @@ keeps_names : (rec : DeviceRec) (cells : List Cell) (phys : Phys) → IsPlaced r
 keeps_names rec cells phys placed own = record {
   count = own.places_count ∙ sym own.placements_count;
   named = each_placement (NamesPlace rec) cells own.places phys.placements own.placements_count
-      (λ k c p m a b e. let on : IsOnPlace rec c p m = own.each k c p m a b e in
-      record { site = on.site; bel = on.bel });
+      (λ k c p m a b e. names_place rec c p m (own.each k c p m a b e));
   nets = placed.fitted.netlist.nets;
   properties = placed.fitted.netlist.properties;
 }
+  where
+    names_place : (rec : DeviceRec) (c : Cell) (p : Spot) (m : CellPlacement)
+        → IsOnPlace rec c p m → NamesPlace rec m p
+    names_place rec c p m on = record {
+      site = on.site;
+      bel = on.bel;
+      pins = subst (λ (ty : ℕ). IsPinMap rec ty p m.bel m.pin_map) (sym on.ty) on.pins;
+    }
 
 keeps_places : (rec : DeviceRec) (cells : List Cell) (phys : Phys)
     (own : HasOwnPlaces rec cells phys) → differ (map (λ c. c.name) cells) ≡ true
@@ -169,7 +198,7 @@ implements device design outcome h =
         phys = phys;
         decodes = written.decodes;
         places = placed.own.places;
-        l1 = keeps_names d.rec c.cells phys placed placed.own;
+        l1_l3 = keeps_names d.rec c.cells phys placed placed.own;
         l2 = keeps_places d.rec c.cells phys placed.own cells.first.differ;
         e1 = has_cells d.rec c.names c.cells phys placed.own ∙ cells.cells_are;
       },
@@ -177,7 +206,7 @@ implements device design outcome h =
 
 -- a run that ends done was answered, and not refused
 from_outcome : (flow : Flow) (before after : Outside) (device design : Content) (outcome : Outcome)
-    → comes_to (answer device design) outcome → status_of outcome.report ≡ stat.Done
+    → comes_to (answer device design) outcome → is_done outcome.report ≡ true
     → ((files : Files) → before.files ≡ Some files
     → AreContents files (flow.device ∷ flow.design ∷ []) (device ∷ design ∷ []))
     → after.files ≡ option_map (with_files (flow.routed ∷ []) outcome.outputs) before.files
@@ -194,10 +223,11 @@ from_outcome flow before after device design outcome (inl ok) done read written 
       implements = made.2;
     }
 from_outcome flow before after device design outcome (inr refusal) done read written =
-    absurd (not_done outcome.report (answer_refuses device design outcome.report refusal.0) done)
+    absurd (not_refused outcome.report done
+    (answer_refuses device design outcome.report refusal.0))
 
 from_contents : (flow : Flow) (before after : Outside) (contents : List Content) (outcome : Outcome)
-    → IsFlowOutcome contents outcome → status_of outcome.report ≡ stat.Done
+    → IsFlowOutcome contents outcome → is_done outcome.report ≡ true
     → ((files : Files) → before.files ≡ Some files
     → AreContents files (flow.device ∷ flow.design ∷ []) contents)
     → after.files ≡ option_map (with_files (flow.routed ∷ []) outcome.outputs) before.files
@@ -210,29 +240,43 @@ from_contents flow before after (device ∷ design ∷ other ∷ more) outcome i
     absurd is
 
 by_ending : (flow : Flow) (before after : Outside) (report : Report)
-    → IsEnding IsFlowOutcome (job_for flow) before after report → status_of report ≡ stat.Done
+    → IsEnding IsFlowOutcome (job_for flow) before after report → is_done report ≡ true
     → HasImplemented flow before after
 by_ending flow before after report (inl answered) done =
     from_contents flow before after answered.has.contents answered.has.outcome answered.has.is
-    (sym (ap status_of answered.report_is) ∙ done) answered.has.read answered.written
+    (sym (ap is_done answered.report_is) ∙ done) answered.has.read answered.written
 by_ending flow before after report (inr (inl unread)) done =
-    absurd (not_done report (ap is_done unread.report_is) done)
+    absurd (not_refused report done (ap is_done unread.report_is))
 by_ending flow before after report (inr (inr (inl unwritten))) done =
-    absurd (not_done report (ap is_done unwritten.report_is) done)
+    absurd (not_refused report done (ap is_done unwritten.report_is))
 by_ending flow before after report (inr (inr (inr starved))) done =
-    absurd (not_done report (ap is_done starved.report_is) done)
+    absurd (not_refused report done (ap is_done starved.report_is))
+
+-- the status of a job that is done, whether or not its line was put
+abbrev IsOfDone : Status → Type 0
+IsOfDone status = (status ≡ stat.Done) ⊎ (status ≡ stat.PutFault)
+
+done_report : (report : Report) → IsOfDone (status_of report) → is_done report ≡ true
+done_report report (inl done) = is_of_done report done
+done_report report (inr put) = absurd (no_put_fault report put)
 
 by_answered : (flow : Flow) (before after : Outside) (answered : Result Report Failed)
-    → RunsJob IsFlowOutcome (job_for flow) before after answered → ended answered ≡ stat.Done
+    → RunsJob IsFlowOutcome (job_for flow) before after answered → IsOfDone (ended answered)
     → HasImplemented flow before after
 by_answered flow before after (Ok report) runs done =
-    by_ending flow before after report runs.ending done
-by_answered flow before after (Err failed) runs done = let bad : stat.PutFault ≡ stat.Done = done in
-    cc
+    by_ending flow before after report runs.ending (done_report report done)
+by_answered flow before after (Err failed) runs done =
+    by_ending flow before after runs.0 runs.1.ending runs.1.told.0
 
 pub run_implements : (words : Option Flow) (before after : Outside) (status : Status)
-    → IsRun words before after status → status ≡ stat.Done → IsImplemented words before after
-run_implements None before after status run done = let bad : stat.Usage ≡ stat.Done =
+    → IsRun words before after status → IsOfDone status → IsImplemented words before after
+run_implements None before after status run (inl done) = let bad : stat.Usage ≡ stat.Done =
     sym run.usage ∙ done in cc
+run_implements None before after status run (inr put) = let bad : stat.Usage ≡ stat.PutFault =
+    sym run.usage ∙ put in cc
 run_implements (Some flow) before after status run done =
-    by_answered flow before after run.answered run.runs (sym run.status_is ∙ done)
+    by_answered flow before after run.answered run.runs (subst IsOfDone run.status_is done)
+
+pub usage_not_done : IsOfDone stat.Usage → ⊥
+usage_not_done (inl done) = let bad : stat.Usage ≡ stat.Done = done in cc
+usage_not_done (inr put) = let bad : stat.Usage ≡ stat.PutFault = put in cc

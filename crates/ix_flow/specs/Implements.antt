@@ -1,5 +1,5 @@
--- What status 0 of `flow` says of the netlist that it wrote. Designs have no nets yet: so no rule on
--- segments, on trees or on tables has anything to judge.
+-- What status 0 of `flow` says of the netlist that it wrote. Designs have no nets and no LUT cells
+-- yet: so no rule on segments, on trees or on tables has anything to judge.
 use Rattle.std.specs.Prelude.{◌≡◌, ℕ, List, [], ◌∷◌, length, map, slice_get, true, Option, Some}
 use Rattle.std.specs.Prelude.{None, option_map, slice_index_or, Result, Ok}
 use Rattle.ix_frame.specs.Segments.{Segments}
@@ -19,18 +19,20 @@ use Rattle.ix_phys_write.specs.Record.{phys_record}
 use Rattle.ix_first_form.specs.FirstForm.{is_first_form, cells_in}
 use Rattle.ix_first_fit.specs.declared.cell.Spot.{Spot}
 use Rattle.ix_first_fit.specs.Spots.{admits}
-use Rattle.ix_first_fit.specs.Netlist.{bel_name, used_sites, AreInstances}
+use Rattle.ix_first_fit.specs.Netlist.{bel_name, used_sites, IsPinMap, AreInstances}
 use Rattle.ix_first_fit.specs.Laws.{Differ}
 use Rattle.ix_flow.specs.Words.{Flow}
 use Rattle.ix_flow.specs.Answer.{opened, NamedDevice, IsValid}
 
--- Rule L1 at a placement: its site and its BEL are there, and this is the place that they name.
+-- Rules L1 and L3 at a placement: its site and its BEL are there, and this is the place that they
+-- name; its pin map is the device's for its cell type there, whole, so that each pin is there too.
 pub record NamesPlace (rec : DeviceRec) (m : CellPlacement) (p : Spot) : Type 0 where
   pub site : name_of_site rec p.site ≡ Some m.site
   pub bel : bel_name rec p ≡ Some m.bel
+  pub pins : IsPinMap rec m.ty p m.bel m.pin_map
 
--- Rule L1: each placement names a place, which admits its cell type, so that the type is there too.
--- There are no segments and no keys of tables.
+-- Rules L1 and L3: each placement names a place, which admits its cell type, so that the type is
+-- there too. There are no segments and no keys of tables.
 pub record KeepsNames (rec : DeviceRec) (phys : Phys) (places : List Spot) : Type 0 where
   pub count : length places ≡ length phys.placements
   pub named : (k : ℕ) (m : CellPlacement) (p : Spot) → slice_get phys.placements k ≡ Some m
@@ -67,7 +69,7 @@ pub record Implements (device design : Content) (output : List ℕ) : Type 0 whe
   pub phys : Phys
   pub decodes : reading phys_netlist output ≡ Ok (phys_record names phys)
   pub places : List Spot
-  pub l1 : KeepsNames on.rec phys places
+  pub l1_l3 : KeepsNames on.rec phys places
   pub l2 : KeepsPlaces on.rec phys places
   pub e1 : map (placed_texts names) phys.placements ≡ cells_in design_segments
 

@@ -1,5 +1,5 @@
 use Rattle.std.proofs.Common.{◌≡◌, ◌≤◌, ◌^◌}
-use Rattle.ix_belmap.specs.Counts.{count_below}
+use Rattle.ix_belmap.specs.Sites.{count_below}
 use Rattle.ix_belmap.proofs.BelSums.{takes_in}
 use Rattle.ix_belmap.proofs.bels.bels_in_type.Given as goal
 

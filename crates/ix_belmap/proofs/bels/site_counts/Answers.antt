@@ -2,7 +2,7 @@ use Rattle.std.proofs.Common.{◌≡◌, ◌<◌, ap, sym, ◌∙◌, length, ge
 use Rattle.std.proofs.lemmas.List.{length-replicate}
 use Rattle.std.proofs.lemmas.Option.{slice_get-get_or}
 use Rattle.ix_device.specs.Lookups.{sites_of, type_of_site}
-use Rattle.ix_belmap.specs.Counts.{count_below}
+use Rattle.ix_belmap.specs.Sites.{count_below}
 use Rattle.ix_belmap.specs.Sites.{is_of_type, sites_of_type}
 use Rattle.ix_belmap.proofs.BelSums.{counted_next, of_type_told, zeros, count_start, count_most, get_or_past_default}
 use Rattle.ix_belmap.proofs.bels.site_counts.Goals as goal

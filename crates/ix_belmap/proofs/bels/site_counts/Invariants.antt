@@ -1,5 +1,5 @@
 use Rattle.std.proofs.Common.{◌≡◌, ◌<◌, ℕ, length, get_or}
-use Rattle.ix_belmap.specs.Counts.{count_below}
+use Rattle.ix_belmap.specs.Sites.{count_below}
 use Rattle.ix_belmap.specs.Sites.{is_of_type}
 use Rattle.ix_belmap.proofs.bels.site_counts.Given as goal
 

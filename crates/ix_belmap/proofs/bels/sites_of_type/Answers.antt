@@ -1,6 +1,6 @@
 use Rattle.std.proofs.Common.{◌≡◌, ap, sym, ◌∙◌, ℕ, Bool, length, arith}
 use Rattle.ix_device.specs.Lookups.{sites_of, type_of_site}
-use Rattle.ix_belmap.specs.Counts.{count_below}
+use Rattle.ix_belmap.specs.Sites.{count_below}
 use Rattle.ix_belmap.specs.Sites.{is_of_type, sites_of_type}
 use Rattle.ix_belmap.proofs.Counting.{counted_yes, counted_no}
 use Rattle.ix_belmap.proofs.BelSums.{count_start, of_type_told}

@@ -3,7 +3,7 @@ use Rattle.ix_job.specs.Outside.{outside}
 use Rattle.ix_flow.specs.declared.status.Status.TheVariants as stat
 use Rattle.ix_flow.specs.Words.{Flow}
 use Rattle.ix_flow.specs.Run.{IsRun, IsComplete}
-use Rattle.ix_flow.proofs.Implementing.{run_implements}
+use Rattle.ix_flow.proofs.Implementing.{run_implements, usage_not_done}
 use Rattle.ix_flow.proofs.program.run.Goals as goal
 
 pub returns-in-Some-clause-run : goal.returns-in-Some-clause-run
@@ -28,4 +28,4 @@ pub returns-in-Some-clause-implements : goal.returns-in-Some-clause-implements
 returns-in-Some-clause-implements g c = run_implements _ _ _ _ (returns-in-Some-clause-run g c)
 
 pub returns-in-None-clause-implements : goal.returns-in-None-clause-implements
-returns-in-None-clause-implements g c = λ done. let bad : stat.Usage ≡ stat.Done = done in cc
+returns-in-None-clause-implements g c = λ h. absurd (usage_not_done h)

@@ -72,8 +72,10 @@ class Writer:
             inner = value.get(field.name)
             if field.is_data or field.form == "List(UInt32)":
                 names = [inner] if field.is_data else inner or []
+                # A number in the place of a name stands for itself, as the value of a property may.
                 for name in names if field.is_name else []:
-                    self.known.setdefault("" if name is None else name)
+                    if not isinstance(name, int):
+                        self.known.setdefault("" if name is None else name)
             elif field.form in self.structs:
                 self.note(field.form, inner or {})
             elif field.form[5:-1] in self.structs:

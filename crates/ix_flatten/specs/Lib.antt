@@ -1,0 +1,7 @@
+-- What public contracts say.
+pub mod Hierarchy
+pub mod Walk
+pub mod Nets
+pub mod Pins
+pub mod FlatDesign
+pub mod Broken

@@ -1,0 +1,12 @@
+//! Draft.
+#![tactic(auto)]
+
+ghost use Rattle.ix_flatten.specs.FlatDesign.{IsFlatOf};
+ghost use Rattle.std.specs.Prelude.{◌≡◌};
+
+/// Nothing.
+pub fn nothing() -> u32
+    ensures { result ≡ 0 }
+{
+    0
+}

@@ -24,7 +24,9 @@ use Rattle.ix_flatten.specs.Walk.{Spot, TopBit, NetAt, InstanceAt, PinAt, IsBefo
 use Rattle.ix_flatten.specs.Nets.{Occurrence, Occurs, AreOneNet, IsFirstOf, bit_of, same_bit}
 use Rattle.ix_flatten.specs.Pins.{Pin, LeafPin, TopPin, IsLeafOf, IsPlainLeaf, IsTopBit, IsOnNet}
 use Rattle.ix_flatten.specs.Pins.{IsDriver, HasSink, IsConstantNet, constant_of_type, type_of}
+use Rattle.ix_rec.specs.declared.flow.Flat.{Flat}
 use Rattle.ix_flatten.specs.FlatDesign.{IsNetText, lut_of_type, table_of, port_type, IsSignal}
+use Rattle.ix_flatten.specs.FlatDesign.{IsFlatOf}
 
 -- N1: which declarations stand inside which.
 
@@ -188,30 +190,31 @@ abbrev pub BreaksN8 : NetlistRec → Spot → Type 0
 BreaksN8 design spot = (at : Occurrence) × IsInoutOn design spot at
 
 -- N3 and N4, at the first occurrence of a net.
-pub record HasTwoDrivers (rec : DeviceRec) (design : NetlistRec) (at : Occurrence) : Type 0 where
+pub record HasTwoDrivers (names : List Text) (rec : DeviceRec) (design : NetlistRec)
+    (at : Occurrence) : Type 0 where
   pub one : Pin
   pub other : Pin
   pub apart : one ≢ other
-  pub drives : IsDriver rec design one
-  pub other_drives : IsDriver rec design other
+  pub drives : IsDriver names rec design one
+  pub other_drives : IsDriver names rec design other
   pub on : IsOnNet design one at
   pub other_on : IsOnNet design other at
 
-abbrev pub BreaksN3 : DeviceRec → NetlistRec → Spot → Type 0
-BreaksN3 rec design (NetAt path net) =
+abbrev pub BreaksN3 : List Text → DeviceRec → NetlistRec → Spot → Type 0
+BreaksN3 names rec design (NetAt path net) =
     IsFirstOf design record { path = path; net = net }
-    × HasTwoDrivers rec design record { path = path; net = net }
-BreaksN3 rec design spot = ⊥
+    × HasTwoDrivers names rec design record { path = path; net = net }
+BreaksN3 names rec design spot = ⊥
 
-abbrev pub HasNoDriver : DeviceRec → NetlistRec → Occurrence → Type 0
-HasNoDriver rec design at = (pin : Pin) → IsDriver rec design pin → IsOnNet design pin at → ⊥
+abbrev pub HasNoDriver : List Text → DeviceRec → NetlistRec → Occurrence → Type 0
+HasNoDriver names rec design at = (pin : Pin) → IsDriver names rec design pin → IsOnNet design pin at → ⊥
 
-abbrev pub BreaksN4 : DeviceRec → NetlistRec → Spot → Type 0
-BreaksN4 rec design (NetAt path net) =
+abbrev pub BreaksN4 : List Text → DeviceRec → NetlistRec → Spot → Type 0
+BreaksN4 names rec design (NetAt path net) =
     IsFirstOf design record { path = path; net = net }
     × HasSink rec design record { path = path; net = net }
-    × HasNoDriver rec design record { path = path; net = net }
-BreaksN4 rec design spot = ⊥
+    × HasNoDriver names rec design record { path = path; net = net }
+BreaksN4 names rec design spot = ⊥
 
 -- N5: two cells, or two signal nets, have one flat name.
 
@@ -228,7 +231,7 @@ IsCellNamed names rec design (PinAt path place index) text = ⊥
 -- and among signal nets, also without a driver
 abbrev pub IsNetNamed : List Text → DeviceRec → NetlistRec → Spot → Text → Type 0
 IsNetNamed names rec design (NetAt path net) text =
-    IsSignal rec design record { path = path; net = net }
+    IsSignal names rec design record { path = path; net = net }
     × IsNetText names design record { path = path; net = net } text
 IsNetNamed names rec design spot text = ⊥
 
@@ -408,10 +411,10 @@ Keeps5 names rec design = Keeps8 names rec design
     × NoneBreaks (λ s. (text : Text) × BreaksN5 names rec design s text)
 
 abbrev pub Keeps3 : List Text → DeviceRec → NetlistRec → Type 0
-Keeps3 names rec design = Keeps5 names rec design × NoneBreaks (BreaksN3 rec design)
+Keeps3 names rec design = Keeps5 names rec design × NoneBreaks (BreaksN3 names rec design)
 
 abbrev pub Keeps4 : List Text → DeviceRec → NetlistRec → Type 0
-Keeps4 names rec design = Keeps3 names rec design × NoneBreaks (BreaksN4 rec design)
+Keeps4 names rec design = Keeps3 names rec design × NoneBreaks (BreaksN4 names rec design)
 
 abbrev pub Keeps6 : List Text → DeviceRec → NetlistRec → Type 0
 Keeps6 names rec design = Keeps4 names rec design × NoneBreaks (BreaksN6 names rec design)
@@ -430,9 +433,15 @@ IsBroken names rec design N10 word = Keeps9 names rec design × BreaksN10 design
 IsBroken names rec design N8 word = Keeps10 names rec design × TellsN8 names design word
 IsBroken names rec design N5 word = Keeps8 names rec design × TellsN5 names rec design word
 IsBroken names rec design N3 word =
-    Keeps5 names rec design × TellsNet names design (BreaksN3 rec design) word
+    Keeps5 names rec design × TellsNet names design (BreaksN3 names rec design) word
 IsBroken names rec design N4 word =
-    Keeps3 names rec design × TellsNet names design (BreaksN4 rec design) word
+    Keeps3 names rec design × TellsNet names design (BreaksN4 names rec design) word
 IsBroken names rec design N6 word = Keeps4 names rec design × TellsN6 names rec design word
 IsBroken names rec design N7 word = Keeps6 names rec design × TellsN7 names rec design word
 IsBroken names rec design rule word = ⊥
+
+-- The flat design of a netlist on a device: there is one exactly where no rule is broken.
+pub record IsFlattened (names : List Text) (rec : DeviceRec) (design : NetlistRec) (flat : Flat)
+    : Type 0 where
+  pub keeps : KeepsAll names rec design
+  pub is : IsFlatOf rec names design flat

@@ -78,23 +78,26 @@ pub record AreLeafCells (rec : DeviceRec) (design : NetlistRec) (leaves : List L
 abbrev pub leaf_texts : List Text → NetlistRec → LeafCell → Text × Text
 leaf_texts names design leaf = (flat_name names design leaf.path [], slice_index_or names leaf.ty [])
 
-abbrev pub cell_texts : List Text → FlatCell → Text × Text
-cell_texts names cell = (slice_index_or names cell.name [], slice_index_or names cell.ty [])
+-- of a flat cell, where both are numbers of names
+abbrev pub cell_texts : List Text → FlatCell → Option (Text × Text)
+cell_texts names cell = option_and_then (λ name.
+    option_map (λ ty. (name, ty)) (slice_get names cell.ty)) (slice_get names cell.name)
 
 -- Nets.
 
 -- a net that the flat design has as a signal net, by its first occurrence
-pub record IsSignal (rec : DeviceRec) (design : NetlistRec) (at : Occurrence) : Type 0 where
+pub record IsSignal (names : List Text) (rec : DeviceRec) (design : NetlistRec) (at : Occurrence)
+    : Type 0 where
   pub first : IsFirstOf design at
   pub has_sink : HasSink rec design at
-  pub no_constant : (constant : Constant) → ¬ IsConstantNet rec design constant at
+  pub no_constant : (constant : Constant) → ¬ IsConstantNet names rec design constant at
 
-pub record AreSignals (rec : DeviceRec) (design : NetlistRec) (signals : List Occurrence) : Type 0
-    where
-  pub each : (n : ℕ) (at : Occurrence) → slice_get signals n ≡ Some at → IsSignal rec design at
+pub record AreSignals (names : List Text) (rec : DeviceRec) (design : NetlistRec)
+    (signals : List Occurrence) : Type 0 where
+  pub each : (n : ℕ) (at : Occurrence) → slice_get signals n ≡ Some at → IsSignal names rec design at
   pub rise : (m n : ℕ) (a b : Occurrence) → m < n → slice_get signals m ≡ Some a
       → slice_get signals n ≡ Some b → IsBefore (spot_of a) (spot_of b)
-  pub all : (at : Occurrence) → IsSignal rec design at
+  pub all : (at : Occurrence) → IsSignal names rec design at
       → (n : ℕ) × (slice_get signals n ≡ Some at)
 
 -- the name of a net is that of its first occurrence
@@ -108,12 +111,13 @@ constant_net constants.Gnd = nets.Gnd
 constant_net constants.Vcc = nets.Vcc
 
 -- an occurrence is of this net of the flat design
-abbrev pub IsOfNet : DeviceRec → NetlistRec → List Occurrence → Occurrence → NetRef → Type 0
-IsOfNet rec design signals at nets.Gnd =
-    HasSink rec design at × IsConstantNet rec design constants.Gnd at
-IsOfNet rec design signals at nets.Vcc =
-    HasSink rec design at × IsConstantNet rec design constants.Vcc at
-IsOfNet rec design signals at (nets.Signal n) =
+abbrev pub IsOfNet : List Text → DeviceRec → NetlistRec → List Occurrence → Occurrence → NetRef
+    → Type 0
+IsOfNet names rec design signals at nets.Gnd =
+    HasSink rec design at × IsConstantNet names rec design constants.Gnd at
+IsOfNet names rec design signals at nets.Vcc =
+    HasSink rec design at × IsConstantNet names rec design constants.Vcc at
+IsOfNet names rec design signals at (nets.Signal n) =
     (first : Occurrence) × (slice_get signals n ≡ Some first) × AreOneNet design first at
 
 -- Pins.
@@ -135,8 +139,10 @@ cells_before design place = sum_by (λ number. cells_of_port (slice_get design.p
 -- first.
 abbrev pub IsFlatPin : List Text → NetlistRec → (ports : ℕ) → List LeafCell → Pin → (cell : ℕ)
     → Text → Type 0
-IsFlatPin names design ports leaves (TopPin place index) cell text =
-    (cell ≡ cells_before design place + index) × (text ≡ port_pin)
+IsFlatPin names design ports leaves (TopPin place index) cell text = (number : PortNumber)
+    × (port : Port) × (ty : Text) × IsTopBit design place index number port
+    × (port_type port.dir ≡ Some ty) × (cell ≡ cells_before design place + index)
+    × (text ≡ port_pin)
 IsFlatPin names design ports leaves (LeafPin path bit) cell text =
     (k : ℕ) × (leaf : LeafCell) × (slice_get leaves k ≡ Some leaf) × (leaf.path ≡ path)
     × (cell ≡ ports + k) × (written_bit names design bit ≡ Some text)
@@ -149,13 +155,13 @@ pub record IsPinOnNet (rec : DeviceRec) (names : List Text) (design : NetlistRec
   pub is : IsFlatPin names design ports leaves pin cell text
   pub at : Occurrence
   pub on : IsOnNet design pin at
-  pub of_net : IsOfNet rec design signals at net
+  pub of_net : IsOfNet names rec design signals at net
 
 -- a signal net's driver
 pub record IsDriverOf (rec : DeviceRec) (names : List Text) (design : NetlistRec)
     (leaves : List LeafCell) (ports : ℕ) (at : Occurrence) (driver : CellPin) : Type 0 where
   pub pin : Pin
-  pub drives : IsDriver rec design pin
+  pub drives : IsDriver names rec design pin
   pub on : IsOnNet design pin at
   pub text : Text
   pub is : IsFlatPin names design ports leaves pin driver.cell text
@@ -196,9 +202,9 @@ pub record IsFlatOf (rec : DeviceRec) (names : List Text) (design : NetlistRec) 
   pub leaves : List LeafCell
   pub are_leaves : AreLeafCells rec design leaves
   pub signals : List Occurrence
-  pub are_signals : AreSignals rec design signals
+  pub are_signals : AreSignals names rec design signals
   pub cells : map (cell_texts names) flat.cells
-      ≡ port_cells names design ++ map (leaf_texts names design) leaves
+      ≡ map (λ texts. Some texts) (port_cells names design ++ map (leaf_texts names design) leaves)
   pub ports : flat.ports ≡ length (port_cells names design)
   pub nets_count : length flat.nets ≡ length signals
   pub net_names : (n : ℕ) (net : FlatNet) (at : Occurrence) → slice_get flat.nets n ≡ Some net

@@ -13,7 +13,8 @@ use Rattle.ix_rec.specs.declared.netlist.Net.{Net}
 use Rattle.ix_rec.specs.declared.netlist.NetlistRec.{NetlistRec}
 use Rattle.ix_rec.specs.declared.netlist.Port.{Port}
 use Rattle.ix_flatten.specs.Hierarchy.{Path, PortBit, PortNumber, IsLeaf, instance_at, ports_of}
-use Rattle.ix_flatten.specs.Hierarchy.{width}
+use Rattle.ix_message.specs.Shape.{Text}
+use Rattle.ix_flatten.specs.Hierarchy.{width, written_bit}
 use Rattle.ix_flatten.specs.Nets.{Occurrence, Occurs, AreOneNet, names_own, names_of}
 
 -- the type of an instance, by its name
@@ -109,18 +110,18 @@ pub record IsPlainPin (rec : DeviceRec) (design : NetlistRec) (direction : Direc
   pub leaf : IsPlainLeaf rec design path inst ty
   pub towards : direction_of design bit ≡ Some direction
 
--- the constant's own pin of a leaf of constant cells, whatever its direction
-pub record IsConstantPin (rec : DeviceRec) (design : NetlistRec) (constant : Constant) (path : Path)
-    (bit : PortBit) : Type 0 where
+-- the constant's own pin, by its written name, of a leaf of constant cells, whatever its direction
+pub record IsConstantPin (names : List Text) (rec : DeviceRec) (design : NetlistRec)
+    (constant : Constant) (path : Path) (bit : PortBit) : Type 0 where
   pub inst : CellInstance
   pub ty : ℕ
   pub leaf : IsLeafOf design path inst ty
   pub constants : Constants
   pub device_has : rec.constants ≡ Some constants
   pub constant_is : constant_of_type rec ty ≡ Some constant
-  pub port : Port
-  pub port_is : slice_get design.port_list bit.port ≡ Some port
-  pub own_pin : port.name ≡ constant_pin constants constant
+  pub text : Text
+  pub own_pin : slice_get names (constant_pin constants constant) ≡ Some text
+  pub written_is : written_bit names design bit ≡ Some text
 
 -- the top's bit of a port of this direction
 pub record IsTopPin (design : NetlistRec) (direction : Direction) (place index : ℕ) : Type 0 where
@@ -130,10 +131,10 @@ pub record IsTopPin (design : NetlistRec) (direction : Direction) (place index :
   pub towards : port.dir ≡ direction
 
 -- an output of a leaf, the constant pin of a constant cell, a bit of an input of the top
-abbrev pub IsDriver : DeviceRec → NetlistRec → Pin → Type 0
-IsDriver rec design (LeafPin path bit) = IsPlainPin rec design Output path bit
-    ⊎ ((constant : Constant) × IsConstantPin rec design constant path bit)
-IsDriver rec design (TopPin place index) = IsTopPin design Input place index
+abbrev pub IsDriver : List Text → DeviceRec → NetlistRec → Pin → Type 0
+IsDriver names rec design (LeafPin path bit) = IsPlainPin rec design Output path bit
+    ⊎ ((constant : Constant) × IsConstantPin names rec design constant path bit)
+IsDriver names rec design (TopPin place index) = IsTopPin design Input place index
 
 -- an input of a leaf, a bit of an output of the top
 abbrev pub IsSink : DeviceRec → NetlistRec → Pin → Type 0
@@ -144,9 +145,9 @@ abbrev pub HasSink : DeviceRec → NetlistRec → Occurrence → Type 0
 HasSink rec design at = (pin : Pin) × IsSink rec design pin × IsOnNet design pin at
 
 -- a constant pin drives the net
-pub record IsConstantNet (rec : DeviceRec) (design : NetlistRec) (constant : Constant)
-    (at : Occurrence) : Type 0 where
+pub record IsConstantNet (names : List Text) (rec : DeviceRec) (design : NetlistRec)
+    (constant : Constant) (at : Occurrence) : Type 0 where
   pub path : Path
   pub bit : PortBit
-  pub drives : IsConstantPin rec design constant path bit
+  pub drives : IsConstantPin names rec design constant path bit
   pub on : IsOnNet design (LeafPin path bit) at

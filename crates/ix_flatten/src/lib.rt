@@ -1,7 +1,7 @@
 //! Draft.
 #![tactic(auto)]
 
-ghost use Rattle.ix_flatten.specs.FlatDesign.{IsFlatOf};
+ghost use Rattle.ix_flatten.specs.Broken.{IsFlattened};
 ghost use Rattle.std.specs.Prelude.{◌≡◌};
 
 /// Nothing.

@@ -14,7 +14,7 @@ pub type Name = u32;
 pub struct Context<'a> {
     names: HashMap<&'a str, Name>,
     pub texts: Vec<String>,
-    strings: Vec<Name>,
+    pub strings: Vec<Name>,
     pub bad: Option<(&'static str, &'static str)>,
     site_types: u32,
     /// Of each tile type, how many types its sites have.
@@ -26,7 +26,7 @@ pub struct Context<'a> {
 }
 
 impl<'a> Context<'a> {
-    fn add(&mut self, text: &'a str) -> Name {
+    pub fn add(&mut self, text: &'a str) -> Name {
         let next = self.texts.len() as Name;
         let texts = &mut self.texts;
         *self.names.entry(text).or_insert_with(|| {
@@ -35,14 +35,14 @@ impl<'a> Context<'a> {
         })
     }
 
-    fn below(&mut self, kind: &'static str, field: &'static str, limit: u32, n: u32) -> u32 {
+    pub fn below(&mut self, kind: &'static str, field: &'static str, limit: u32, n: u32) -> u32 {
         if n >= limit && self.bad.is_none() {
             self.bad = Some((kind, field));
         }
         n
     }
 
-    fn name(&mut self, kind: &'static str, field: &'static str, n: u32) -> Name {
+    pub fn name(&mut self, kind: &'static str, field: &'static str, n: u32) -> Name {
         let limit = self.strings.len() as u32;
         self.below(kind, field, limit, n);
         self.strings.get(n as usize).copied().unwrap_or(0)
@@ -56,7 +56,7 @@ impl<'a> Context<'a> {
 pub type Read<T> = Result<T, Fault>;
 
 /// The structs of a list.
-fn each<'a, T>(
+pub fn each<'a, T>(
     o: &Obj<'a>,
     slot: u32,
     c: &mut Context<'a>,
@@ -76,7 +76,7 @@ fn number_at(list: &List, i: u32) -> u32 {
 }
 
 /// The numbers of a list, each asked by a function.
-fn numbers<'a>(
+pub fn numbers<'a>(
     o: &Obj<'a>,
     slot: u32,
     c: &mut Context<'a>,

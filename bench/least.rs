@@ -1,18 +1,21 @@
-//! Searches a grid by Dijkstra's algorithm over `std::collections::BinaryHeap`, in plain Rust: the measure for the speed of
-//! `ix_least::Search`. Labels take 24 bytes a point, are kept from one search to the next and told apart by the search's
+//! Searches a grid, or the node graph of a device, by Dijkstra's algorithm over
+//! `std::collections::BinaryHeap`, in plain Rust: the measure for the speed of `ix_least::Search`.
+//! Labels take 24 bytes a point, are kept from one search to the next and told apart by the search's
 //! number; ties go to the least edge number.
 //!
-//! usage: least <KINDS_AND_GRID
-//!        least grid MOST >GRID
+//! usage: least COSTS SEARCHES [DEVICE]
 //!
-//! It reads a line COUNT:COLUMNS:ROWS[:bounded] for each kind of searches, and then the rows of the grid: so many searches
-//! between points that are drawn, the second at most so many columns and rows behind the first. For each kind it prints how
-//! long they took in microseconds, how many paths there are, a number folded from their edges in their order, and how many
-//! points were settled. With the word `grid` it writes a grid of 1,000 x 1,000 points with a wall around, whose costs go up to MOST.
+//! It reads what `ix_least_times` reads and prints the same lines, on standard error also how many
+//! points were settled.
 
+mod device;
+mod frame;
+mod rows;
+
+use rows::Rows;
 use std::cmp::Reverse;
 use std::collections::BinaryHeap;
-use std::io::Read;
+use std::fs;
 use std::time::Instant;
 
 #[derive(Clone, Copy)]
@@ -26,29 +29,54 @@ struct Label {
 
 const _: () = assert!(size_of::<Label>() == 24);
 
-/// A grid, row by row: what each point costs to enter, and 0 where it may not be entered.
-struct Grid {
-    width: u32,
-    cells: Vec<u8>,
+/// The edges out of points: of each its number, and the point that it enters.
+trait Edges {
+    fn points(&self) -> u32;
+    fn out_of(&self, p: u32) -> impl Iterator<Item = (u32, u32)>;
 }
 
-impl Grid {
+struct Grid {
+    width: u32,
+    points: u32,
+}
+
+impl Edges for Grid {
     fn points(&self) -> u32 {
-        self.cells.len() as u32
+        self.points
     }
 
-    fn edge(&self, p: u32, i: u32) -> (u32, u32) {
-        let last = self.points() - 1;
-        match i {
-            0 => (4 * p, (p + 1).min(last)),
-            1 => (4 * p + 1, p.saturating_sub(1)),
-            2 => (4 * p + 2, (p + self.width).min(last)),
-            _ => (4 * p + 3, p.saturating_sub(self.width)),
-        }
+    fn out_of(&self, p: u32) -> impl Iterator<Item = (u32, u32)> {
+        let last = self.points - 1;
+        [
+            (4 * p, (p + 1).min(last)),
+            (4 * p + 1, p.saturating_sub(1)),
+            (4 * p + 2, (p + self.width).min(last)),
+            (4 * p + 3, p.saturating_sub(self.width)),
+        ]
+        .into_iter()
+    }
+}
+
+impl Edges for Rows {
+    fn points(&self) -> u32 {
+        self.starts.len() as u32 - 1
     }
 
+    fn out_of(&self, p: u32) -> impl Iterator<Item = (u32, u32)> {
+        let row = self.starts[p as usize] as usize..self.starts[p as usize + 1] as usize;
+        self.edges[row].iter().map(|edge| (edge.pip, edge.node))
+    }
+}
+
+/// What each point costs to enter, and 0 where it may not be entered.
+struct Cells {
+    costs: Vec<u8>,
+    width: u32,
+}
+
+impl Cells {
     fn cost(&self, p: u32) -> Option<u64> {
-        match self.cells.get(p as usize) {
+        match self.costs.get(p as usize) {
             Some(&cost) if cost > 0 => Some(u64::from(cost)),
             _ => None,
         }
@@ -56,7 +84,8 @@ impl Grid {
 
     fn distances(&self, target: u32) -> Vec<u64> {
         let w = self.width;
-        (0..self.points()).map(|p| u64::from((p / w).abs_diff(target / w) + (p % w).abs_diff(target % w))).collect()
+        let distance = |p: u32| u64::from((p / w).abs_diff(target / w) + (p % w).abs_diff(target % w));
+        (0..self.costs.len() as u32).map(distance).collect()
     }
 }
 
@@ -142,19 +171,25 @@ impl Labels {
         Some(label.dist)
     }
 
-    fn find<Q: Queue>(&mut self, queue: &mut Q, grid: &Grid, bounds: &[u64], source: u32, target: u32) -> bool {
+    fn find<E: Edges, Q: Queue>(
+        &mut self,
+        queue: &mut Q,
+        edges: &E,
+        cells: &Cells,
+        bounds: &[u64],
+        (source, target): (u32, u32),
+    ) -> Option<Vec<(u32, u32)>> {
         self.number += 1;
         queue.clear();
         self.offer(source, 0, 0, source);
         queue.push(0, source, bounds);
         while let Some(point) = queue.pop() {
             if point == target {
-                return true;
+                return Some(self.trace(target));
             }
             if let Some(dist) = self.settle(point) {
-                for i in 0..4 {
-                    let (edge, to) = grid.edge(point, i);
-                    if let Some(cost) = grid.cost(to)
+                for (edge, to) in edges.out_of(point) {
+                    if let Some(cost) = cells.cost(to)
                         && self.offer(to, dist + cost, edge, point)
                     {
                         queue.push(dist + cost, to, bounds);
@@ -162,7 +197,7 @@ impl Labels {
                 }
             }
         }
-        false
+        None
     }
 
     fn trace(&self, target: u32) -> Vec<(u32, u32)> {
@@ -179,81 +214,54 @@ impl Labels {
     }
 }
 
-struct Draw(u64);
-
-impl Draw {
-    fn below(&mut self, n: u32) -> u32 {
-        self.0 = self.0.wrapping_mul(6364136223846793005).wrapping_add(1442695040888963407);
-        ((self.0 >> 33) % u64::from(n)) as u32
-    }
-
-    fn pair(&mut self, grid: &Grid, columns: u32, rows: u32) -> (u32, u32) {
-        let (wide, high) = (grid.width - 2, grid.points() / grid.width - 2);
-        let (x, y) = (self.below(wide), self.below(high));
-        let (dx, dy) = (self.below(columns), self.below(rows));
-        let point = |x: u32, y: u32| (y + 1) * grid.width + x + 1;
-        (point(x, y), point((x + dx).min(wide - 1), (y + dy).min(high - 1)))
-    }
-}
-
-fn write_grid(most: u32) {
-    let mut draw = Draw(1);
-    for row in 0..1002 {
-        let mut line = String::new();
-        for column in 0..1002 {
-            let number = draw.below(most) + 1;
-            let inside = row > 0 && column > 0 && row < 1001 && column < 1001;
-            line += &(if inside { number } else { 0 }).to_string();
+/// Makes the searches of each line, and prints a line for each.
+fn time_lines<E: Edges>(edges: &E, cells: &Cells, lines: &str) {
+    let mut labels = Labels::new(edges.points());
+    let (mut near, mut keyed) = (Near::default(), Keyed::default());
+    for line in lines.lines() {
+        let mut words = line.split(' ');
+        let name = words.next().expect("a name");
+        let number = |word: &str| word.parse::<u32>().expect("a number");
+        let pair = |word: &str| word.split_once('-').map(|(a, b)| (number(a), number(b)));
+        let (mut fold, mut nanos, mut paths) = (0u64, 0, 0);
+        labels.settled = 0;
+        for pair in words.map(|word| pair(word).expect("a pair")) {
+            let bounded = name.ends_with(":bounded");
+            let bounds = if bounded { cells.distances(pair.1) } else { Vec::new() };
+            let start = Instant::now();
+            let found = if bounded {
+                labels.find(&mut keyed, edges, cells, &bounds, pair)
+            } else {
+                labels.find(&mut near, edges, cells, &bounds, pair)
+            };
+            nanos += start.elapsed().as_nanos();
+            paths += u32::from(found.is_some());
+            for (edge, _) in found.into_iter().flatten() {
+                fold = fold.wrapping_mul(31).wrapping_add(u64::from(edge)).wrapping_add(1);
+            }
         }
-        println!("{line}");
+        println!("{name}: {paths} paths, fold {fold}");
+        eprintln!("{name}: {} us, settled {}", nanos / 1000, labels.settled);
     }
 }
 
-/// The kinds of searches, and the grid.
-fn read() -> (Vec<String>, Grid) {
-    let mut text = String::new();
-    std::io::stdin().read_to_string(&mut text).expect("a grid");
-    let (kinds, rows): (Vec<&str>, Vec<&str>) = text.lines().partition(|line| line.contains(':'));
-    let width = rows.first().map_or(0, |row| row.len()) as u32;
-    let cells = rows.iter().flat_map(|row| row.bytes()).map(|digit| digit - b'0').collect();
-    (kinds.iter().map(|kind| kind.to_string()).collect(), Grid { width, cells })
-}
-
-/// Makes the searches of a kind, and prints their line.
-fn run(labels: &mut Labels, near: &mut Near, keyed: &mut Keyed, grid: &Grid, word: &str) {
-    let parts: Vec<&str> = word.split(':').collect();
-    let number = |i: usize| parts[i].parse::<u32>().expect("a number");
-    let bounded = parts.get(3) == Some(&"bounded");
-    let mut draw = Draw(7);
-    let (mut fold, mut nanos, mut paths) = (0u64, 0, 0);
-    labels.settled = 0;
-    for _ in 0..number(0) {
-        let (source, target) = draw.pair(grid, number(1), number(2));
-        let bounds = if bounded { grid.distances(target) } else { Vec::new() };
-        let start = Instant::now();
-        let found = if bounded {
-            labels.find(keyed, grid, &bounds, source, target)
-        } else {
-            labels.find(near, grid, &bounds, source, target)
-        };
-        let path = if found { Some(labels.trace(target)) } else { None };
-        nanos += start.elapsed().as_nanos();
-        paths += u32::from(path.is_some());
-        for (edge, _) in path.into_iter().flatten() {
-            fold = fold.wrapping_mul(31).wrapping_add(u64::from(edge)).wrapping_add(1);
-        }
-    }
-    println!("{} us, {paths} paths, fold {fold}, settled {}", nanos / 1000, labels.settled);
+fn rows_of(bytes: &[u8]) -> Rows {
+    let frame = frame::open(bytes).ok().expect("a frame");
+    let (device, _names) = device::device_or_exit(&frame);
+    let (nodes, count) = rows::join(&device, &rows::look_ups(&device));
+    rows::sort(&device, &nodes, count)
 }
 
 fn main() {
-    let mut words = std::env::args().skip(1);
-    if words.next().is_some_and(|word| word == "grid") {
-        return write_grid(words.next().and_then(|most| most.parse().ok()).expect("a cost"));
-    }
-    let (kinds, grid) = read();
-    let (mut labels, mut near, mut keyed) = (Labels::new(grid.points()), Near::default(), Keyed::default());
-    for kind in &kinds {
-        run(&mut labels, &mut near, &mut keyed, &grid, kind);
+    let words: Vec<String> = std::env::args().collect();
+    let read = |word: &String| fs::read_to_string(word).expect("a file");
+    let (costs, lines) = (read(&words[1]), read(&words[2]));
+    let width = costs.lines().last().map_or(0, str::len) as u32;
+    let costs: Vec<u8> = costs.lines().flat_map(str::bytes).map(|digit| digit - b'0').collect();
+    let points = costs.len() as u32;
+    let cells = Cells { costs, width };
+    match words.get(3) {
+        Some(device) => time_lines(&rows_of(&fs::read(device).expect("a device")), &cells, &lines),
+        None => time_lines(&Grid { width, points }, &cells, &lines),
     }
 }

@@ -1,7 +1,7 @@
 #!/usr/bin/env python3
 """Writes what `ix_least_cases` must print, by the definition of the least path alone: no queue, no bounds.
 
-usage: tools/least_cases.py <crates/ix_least_cases/stdin >crates/ix_least_cases/stdout
+usage: tools/least_cases.py <crates/ix_least_cases/data/grid >crates/ix_least_cases/stdout
 
 `dist` is made smaller edge by edge until no edge makes it smaller (Bellman and Ford), and the path is traced back from the
 target by the least edge number among all edges of the grid, until the source.

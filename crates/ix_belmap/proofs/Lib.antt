@@ -1,4 +1,16 @@
+pub mod Lists
 pub mod Sums
 pub mod Counting
 pub mod Named
 pub mod BelSums
+pub mod Staying
+pub mod Rows
+pub mod Once
+pub mod Sorted
+pub mod Values
+pub mod Failures
+pub mod Bits
+pub mod FixedPorts
+pub mod Pinned
+pub mod Marking
+pub mod Grouped

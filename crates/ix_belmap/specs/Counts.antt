@@ -1,8 +1,7 @@
 -- How many BELs admit a cell type, and whether they are enough.
-use Rattle.std.specs.Prelude.{◌≡◌, ◌<◌, ◌≤◌, ℕ, zero, suc, ◌+◌, List, length, slice_get, Bool}
-use Rattle.std.specs.Prelude.{nat_eq, Option, Some, None, is_some, option_map, option_and_then}
-use Rattle.std.specs.Prelude.{unwrap_or, if◌then◌else◌}
-use Rattle.std.specs.List.{count_by}
+use Rattle.std.specs.Prelude.{◌≡◌, ◌<◌, ◌≤◌, ℕ, List, length, slice_get, Bool, nat_eq, Option}
+use Rattle.std.specs.Prelude.{Some, None, is_some, option_map, option_and_then, unwrap_or}
+use Rattle.std.specs.List.{count_by, range_with_len, sum_by}
 use Rattle.ix_rec.specs.declared.device.DeviceRec.{DeviceRec}
 use Rattle.ix_rec.specs.declared.device.SiteType.{SiteType}
 use Rattle.ix_rec.specs.declared.flow.FlatCell.{FlatCell}
@@ -10,23 +9,13 @@ use Rattle.ix_device.specs.Lookups.{sites_of, type_of_site}
 use Rattle.ix_device.specs.Admission.{pins_in}
 use Rattle.ix_belmap.specs.declared.counts.Short.{Short}
 
--- how many numbers below this one pass
-unfoldable pub count_below : (ℕ → Bool) → ℕ → ℕ
-count_below test zero = 0
-count_below test (suc n) = count_below test n + (if test n then 1 else 0)
-
--- the sum over the numbers below this one
-unfoldable pub sum_below : (ℕ → ℕ) → ℕ → ℕ
-sum_below f zero = 0
-sum_below f (suc n) = sum_below f n + f n
-
 -- a BEL of a site type, by its number, admits the cell type
 abbrev pub admits : DeviceRec → (ty : ℕ) → SiteType → (bel : ℕ) → Bool
 admits rec ty t bel = is_some (pins_in rec ty bel t)
 
 -- how many BELs of a site type admit the cell type
 unfoldable pub bels_in_type : DeviceRec → (ty : ℕ) → SiteType → ℕ
-bels_in_type rec ty t = count_below (admits rec ty t) (length t.bels)
+bels_in_type rec ty t = count_by (admits rec ty t) (range_with_len 0 (length t.bels))
 
 -- how many BELs of a site do
 unfoldable pub bels_at : DeviceRec → (ty site : ℕ) → ℕ
@@ -35,7 +24,7 @@ bels_at rec ty site = unwrap_or (option_map (bels_in_type rec ty)
 
 -- how many pairs of a site and a BEL of it admit the cell type
 unfoldable pub bels_of_device : DeviceRec → (ty : ℕ) → ℕ
-bels_of_device rec ty = sum_below (bels_at rec ty) (length (sites_of rec))
+bels_of_device rec ty = sum_by (bels_at rec ty) (range_with_len 0 (length (sites_of rec)))
 
 -- how many cells are of a type
 unfoldable pub cells_of_type : (ty : ℕ) → List FlatCell → ℕ

@@ -1,11 +1,20 @@
 -- What is known while cells and sites are counted.
-use Rattle.std.specs.Prelude.{◌≡◌, ◌<◌, ◌^◌, ℕ, List, length, slice_get, Bool, false, nat_eq}
-use Rattle.std.specs.Prelude.{Option, Some, option_map, unwrap_or}
+use Rattle.std.specs.Prelude.{◌≡◌, ◌<◌, ◌^◌, ℕ, zero, suc, ◌+◌, List, length, slice_get, Bool}
+use Rattle.std.specs.Prelude.{false, nat_eq, Option, Some, option_map, unwrap_or, if◌then◌else◌}
 use Rattle.std.specs.HashMap.{get}
 use Rattle.ix_rec.specs.declared.device.DeviceRec.{DeviceRec}
 use Rattle.ix_device.specs.Lookups.{sites_of, type_of_site}
 use Rattle.ix_belmap.specs.declared.cells.CellCounts.{CellCounts}
-use Rattle.ix_belmap.specs.Counts.{count_below}
+
+-- how many numbers below this one pass
+unfoldable pub count_below : (ℕ → Bool) → ℕ → ℕ
+count_below test zero = 0
+count_below test (suc n) = count_below test n + (if test n then 1 else 0)
+
+-- the sum over the numbers below this one
+unfoldable pub sum_below : (ℕ → ℕ) → ℕ → ℕ
+sum_below f zero = 0
+sum_below f (suc n) = sum_below f n + f n
 
 -- the count of a cell type
 abbrev pub of_type : CellCounts → ℕ → Option ℕ

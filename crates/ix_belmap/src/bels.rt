@@ -4,6 +4,7 @@ ghost use Rattle.std.specs.Prelude.{◌≡◌, ◌<◌, ◌≤◌, ◌^◌, ℕ,
 ghost use Rattle.ix_device.specs.Lookups.{sites_of};
 ghost use Rattle.ix_belmap.specs.Counts.{bels_in_type as bels_in_type_seen};
 ghost use Rattle.ix_belmap.specs.Counts.{bels_of_device as bels_of_device_seen};
+ghost use Rattle.ix_belmap.specs.Groups.{is_home as is_home_seen};
 ghost use Rattle.ix_belmap.specs.Sites.{sites_of_type as sites_of_type_seen, AreSiteCounts};
 
 use ix_device::Device;
@@ -50,6 +51,15 @@ fn bels_in_type(device: &Device, ty: NameId, t: SiteTypeId) -> u64
         }
     }
     count
+}
+
+/// Whether a site type admits a cell type by one of its BELs. The site type is told by its place.
+pub(crate) fn is_home(device: &Device, ty: NameId, place: usize) -> bool
+    requires { place < length device.now.site_type_list }
+    ensures { IfSome (slice_get device.now.site_type_list place) (λ seen. result
+        ≡ is_home_seen device.now ty seen) }
+{
+    bels_in_type(device, ty, type_at(device, place)) > 0
 }
 
 // How many sites are of a type.

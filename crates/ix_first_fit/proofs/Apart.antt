@@ -103,6 +103,7 @@ own_places rec cells phys is = record {
     ty = placed.ty;
     site = placed.site;
     bel = placed.bel;
+    pins = placed.pins;
     admitted = (is.fit.each k c p at_c at_p).admitted;
   };
   apart = apart rec cells is.places is.fit is.count;

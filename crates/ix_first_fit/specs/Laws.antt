@@ -8,19 +8,20 @@ use Rattle.ix_device.specs.Lookups.{name_of_site}
 use Rattle.ix_first_fit.specs.declared.cell.Cell.{Cell}
 use Rattle.ix_first_fit.specs.declared.cell.Spot.{Spot}
 use Rattle.ix_first_fit.specs.Spots.{admits}
-use Rattle.ix_first_fit.specs.Netlist.{bel_name, used_sites, AreInstances}
+use Rattle.ix_first_fit.specs.Netlist.{bel_name, used_sites, IsPinMap, AreInstances}
 use Rattle.ix_first_fit.specs.Answers.{IsFitted}
 
 -- a list with no item twice
 abbrev pub Differ : {A : Type 0} → List A → Type 0
 Differ {A} xs = (i j : ℕ) (x : A) → slice_get xs i ≡ Some x → slice_get xs j ≡ Some x → i ≡ j
 
--- the placement is this cell's, on a BEL that admits its type
+-- the placement is this cell's, on a BEL that admits its type, with the whole pin map
 pub record IsOnPlace (rec : DeviceRec) (c : Cell) (p : Spot) (m : CellPlacement) : Type 0 where
   pub cell_name : m.cell_name ≡ c.name
   pub ty : m.ty ≡ c.ty
   pub site : name_of_site rec p.site ≡ Some m.site
   pub bel : bel_name rec p ≡ Some m.bel
+  pub pins : IsPinMap rec c.ty p m.bel m.pin_map
   pub admitted : admits rec c.ty p ≡ true
 
 pub record HasOwnPlaces (rec : DeviceRec) (cells : List Cell) (phys : Phys) : Type 0 where

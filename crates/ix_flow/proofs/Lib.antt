@@ -1,4 +1,5 @@
 pub mod Ending
 pub mod Outputs
+pub mod Implementing
 pub mod Answering
 pub mod MoreNames

@@ -29,13 +29,23 @@ use Rattle.ix_rec.specs.declared.device.LutDefinitions.{LutDefinitions}
 use Rattle.ix_rec.specs.declared.device.DeviceRec.{DeviceRec}
 use Rattle.ix_rec.specs.declared.device.PackagePinSite.{PackagePinSite}
 use Rattle.ix_rec.specs.declared.device.PackagePinSite.TheVariants.{NoSite, Site as SiteOfName}
-use Rattle.ix_device_read.specs.Named.{PinSiteNamed, BelPinNamed, SitePinNamed, BelNamed, SiteWireNamed, SiteTypeNamed, SiteTypeInTileTypeNamed, TileTypeNamed, SiteNamed, TileNamed, WireNamed, SiteTypeBelEntryNamed, CellBelPinEntryNamed, CommonCellBelPinMapsNamed, CellBelMappingNamed, PackagePinNamed, PackageNamed, SiteConstantSourceNamed, NodeConstantSourceNamed, ConstantsNamed, LutCellNamed, LutBelNamed, LutElementNamed, SiteTypeLutElementsNamed, LutDefinitionsNamed, DeviceNamed}
+use Rattle.ix_device_read.specs.Named.{PinSiteNamed, BelPinNamed, SitePinNamed, BelNamed}
+use Rattle.ix_device_read.specs.Named.{SiteWireNamed, SiteTypeNamed, SiteTypeInTileTypeNamed}
+use Rattle.ix_device_read.specs.Named.{TileTypeNamed, SiteNamed, TileNamed, WireNamed}
+use Rattle.ix_device_read.specs.Named.{SiteTypeBelEntryNamed, CellBelPinEntryNamed}
+use Rattle.ix_device_read.specs.Named.{CommonCellBelPinMapsNamed, CellBelMappingNamed}
+use Rattle.ix_device_read.specs.Named.{PackagePinNamed, PackageNamed, SiteConstantSourceNamed}
+use Rattle.ix_device_read.specs.Named.{NodeConstantSourceNamed, ConstantsNamed, LutCellNamed}
+use Rattle.ix_device_read.specs.Named.{LutBelNamed, LutElementNamed, SiteTypeLutElementsNamed}
+use Rattle.ix_device_read.specs.Named.{LutDefinitionsNamed, DeviceNamed}
 
-all_more : {A : Type 0} {P Q : A → Type 0} → ((x : A) → P x → Q x) → (xs : List A) → AllByRecursion P xs → AllByRecursion Q xs
+all_more : {A : Type 0} {P Q : A → Type 0} → ((x : A) → P x → Q x) → (xs : List A)
+    → AllByRecursion P xs → AllByRecursion Q xs
 all_more f [] h = tt
 all_more f (x ∷ xs) h = (f x h.0, all_more f xs h.1)
 
-there_more : {A : Type 0} {P Q : A → Type 0} → ((x : A) → P x → Q x) → (o : Option A) → IfThere P o → IfThere Q o
+there_more : {A : Type 0} {P Q : A → Type 0} → ((x : A) → P x → Q x) → (o : Option A) → IfThere P o
+    → IfThere Q o
 there_more f None h = tt
 there_more f (Some x) h = f x h
 
@@ -77,9 +87,11 @@ module _ {m n : ℕ} (le : m ≤ n) where
     site_wires = all_more more_site_wire r.site_wires h.site_wires;
   }
 
-  more_site_type_in_tile_type : (r : SiteTypeInTileType) → SiteTypeInTileTypeNamed m r → SiteTypeInTileTypeNamed n r
+  more_site_type_in_tile_type : (r : SiteTypeInTileType) → SiteTypeInTileTypeNamed m r
+      → SiteTypeInTileTypeNamed n r
   more_site_type_in_tile_type r h = record {
-    primary_pins_to_tile_wires = all_more up r.primary_pins_to_tile_wires h.primary_pins_to_tile_wires;
+    primary_pins_to_tile_wires = all_more up r.primary_pins_to_tile_wires
+        h.primary_pins_to_tile_wires;
   }
 
   more_tile_type : (r : TileType) → TileTypeNamed m r → TileTypeNamed n r
@@ -106,19 +118,22 @@ module _ {m n : ℕ} (le : m ≤ n) where
     wire = up r.wire h.wire;
   }
 
-  more_site_type_bel_entry : (r : SiteTypeBelEntry) → SiteTypeBelEntryNamed m r → SiteTypeBelEntryNamed n r
+  more_site_type_bel_entry : (r : SiteTypeBelEntry) → SiteTypeBelEntryNamed m r
+      → SiteTypeBelEntryNamed n r
   more_site_type_bel_entry r h = record {
     site_type = up r.site_type h.site_type;
     bels = all_more up r.bels h.bels;
   }
 
-  more_cell_bel_pin_entry : (r : CellBelPinEntry) → CellBelPinEntryNamed m r → CellBelPinEntryNamed n r
+  more_cell_bel_pin_entry : (r : CellBelPinEntry) → CellBelPinEntryNamed m r
+      → CellBelPinEntryNamed n r
   more_cell_bel_pin_entry r h = record {
     cell_pin = up r.cell_pin h.cell_pin;
     bel_pin = up r.bel_pin h.bel_pin;
   }
 
-  more_common_cell_bel_pin_maps : (r : CommonCellBelPinMaps) → CommonCellBelPinMapsNamed m r → CommonCellBelPinMapsNamed n r
+  more_common_cell_bel_pin_maps : (r : CommonCellBelPinMaps) → CommonCellBelPinMapsNamed m r
+      → CommonCellBelPinMapsNamed n r
   more_common_cell_bel_pin_maps r h = record {
     site_types = all_more more_site_type_bel_entry r.site_types h.site_types;
     pins = all_more more_cell_bel_pin_entry r.pins h.pins;
@@ -142,14 +157,16 @@ module _ {m n : ℕ} (le : m ≤ n) where
     package_pins = all_more more_package_pin r.package_pins h.package_pins;
   }
 
-  more_site_constant_source : (r : SiteConstantSource) → SiteConstantSourceNamed m r → SiteConstantSourceNamed n r
+  more_site_constant_source : (r : SiteConstantSource) → SiteConstantSourceNamed m r
+      → SiteConstantSourceNamed n r
   more_site_constant_source r h = record {
     site_type = up r.site_type h.site_type;
     bel = up r.bel h.bel;
     bel_pin = up r.bel_pin h.bel_pin;
   }
 
-  more_node_constant_source : (r : NodeConstantSource) → NodeConstantSourceNamed m r → NodeConstantSourceNamed n r
+  more_node_constant_source : (r : NodeConstantSource) → NodeConstantSourceNamed m r
+      → NodeConstantSourceNamed n r
   more_node_constant_source r h = record {
     tile = up r.tile h.tile;
     wire = up r.wire h.wire;
@@ -184,7 +201,8 @@ module _ {m n : ℕ} (le : m ≤ n) where
     bels = all_more more_lut_bel r.bels h.bels;
   }
 
-  more_site_type_lut_elements : (r : SiteTypeLutElements) → SiteTypeLutElementsNamed m r → SiteTypeLutElementsNamed n r
+  more_site_type_lut_elements : (r : SiteTypeLutElements) → SiteTypeLutElementsNamed m r
+      → SiteTypeLutElementsNamed n r
   more_site_type_lut_elements r h = record {
     site = up r.site h.site;
     luts = all_more more_lut_element r.luts h.luts;

@@ -18,11 +18,12 @@ use Rattle.ix_report.specs.declared.report.Report.TheVariants.{Implemented, Bad,
 use Rattle.ix_report.specs.declared.report.Report.TheVariants.{TooFewBels, NoSite}
 use Rattle.ix_frame.specs.Segments.{Segments, segments}
 use Rattle.ix_strings.specs.Names.{AllDiffer, KeepsNumbers}
-use Rattle.ix_message.specs.Shape.{Text, Value}
+use Rattle.ix_message.specs.Shape.{Struct, Text, Value}
 use Rattle.ix_message.specs.Names.{Datum}
 use Rattle.ix_message.specs.Indexes.{Item}
 use Rattle.ix_message.specs.Message.{frame, out_of_list, reading, encoding, is_too_long}
 use Rattle.ix_message.specs.Device.{device}
+use Rattle.ix_message.specs.Netlist.{netlist}
 use Rattle.ix_message.specs.Phys.{phys_netlist}
 use Rattle.ix_device_read.specs.Named.{DeviceNamed}
 use Rattle.ix_device_read.specs.Records.{device_record}
@@ -80,28 +81,34 @@ pub record IsValid (all : Segments) (d : NamedDevice) : Type 0 where
   pub read : IsRead all d
   pub valid : first_broken d.rec ≡ None
 
--- The first rule that a device breaks, and where: a rule of its frame, an index out of its list, a
--- rule of devices.
-pub record BreaksFrame (all : Segments) (rule : Rule) (place : Place) : Type 0 where
-  pub fault : FrameFault
-  pub found : reading_in_segments device all ≡ Err (frame fault)
-  pub rule_is : rule ≡ rule_of fault.rule
-  pub place_is : place ≡ places.At fault.segment fault.word
+-- The first rule that a file breaks as it is read, and where: a rule of its frame, an index out of
+-- its list.
+pub record BreaksFrame (message : Struct) (all : Segments) (rule : Rule) (place : Place) : Type 0
+  where
+    pub fault : FrameFault
+    pub found : reading_in_segments message all ≡ Err (frame fault)
+    pub rule_is : rule ≡ rule_of fault.rule
+    pub place_is : place ≡ places.At fault.segment fault.word
 
-pub record BreaksIndex (all : Segments) (rule : Rule) (place : Place) : Type 0 where
-  pub item : Item
-  pub found : reading_in_segments device all ≡ Err (out_of_list item)
-  pub rule_is : rule ≡ I1
-  pub place_is : place ≡ places.Item item.kind item.field item.index
+pub record BreaksIndex (message : Struct) (all : Segments) (rule : Rule) (place : Place) : Type 0
+  where
+    pub item : Item
+    pub found : reading_in_segments message all ≡ Err (out_of_list item)
+    pub rule_is : rule ≡ I1
+    pub place_is : place ≡ places.Item item.kind item.field item.index
 
+abbrev pub BreaksReading : (message : Struct) → Segments → Rule → Place → Type 0
+BreaksReading message all rule place =
+    BreaksFrame message all rule place ⊎ BreaksIndex message all rule place
+
+-- the first rule of devices that a device breaks
 pub record BreaksRule (all : Segments) (rule : Rule) (place : Place) : Type 0 where
   pub from_device : NamedDevice
   pub read : IsRead all from_device
   pub broken : IsBreach (first_broken from_device.rec) rule place
 
 abbrev pub BreaksDevice : Segments → Rule → Place → Type 0
-BreaksDevice all rule place = BreaksFrame all rule place ⊎ BreaksIndex all rule place
-    ⊎ BreaksRule all rule place
+BreaksDevice all rule place = BreaksReading device all rule place ⊎ BreaksRule all rule place
 
 abbrev pub device_in : Segments → Step NamedDevice
 device_in all (Ok d) = IsValid all d
@@ -121,10 +128,23 @@ pub record AreCells (d : NamedDevice) (all : Segments) (c : NamedCells) : Type 0
   pub cells_are : map (cell_seen c.names) c.cells ≡ cells_in all
   pub first : AreFirst d.rec c.names c.cells
 
+-- a design is refused for a rule that it breaks as it is read
+pub record IsUnreadable (all : Segments) (report : reports.Report) : Type 0 where
+  pub rule : Rule
+  pub place : Place
+  pub broken : BreaksReading netlist all rule place
+  pub report_is : report ≡ Bad Design rule place
+
+-- or, as it isn't in first form, because nothing more is built yet
+pub record IsNotBuilt (d : NamedDevice) (all : Segments) (report : reports.Report) : Type 0 where
+  pub says : Value Datum netlist
+  pub read : reading_in_segments netlist all ≡ Ok says
+  pub no_form : is_first_form d.names d.rec all ≡ false
+  pub report_is : report ≡ NotBuilt Design
+
 abbrev pub design_in : NamedDevice → Segments → Step NamedCells
 design_in d all (Ok c) = AreCells d all c
-design_in d all (Err report) = (is_first_form d.names d.rec all ≡ false)
-    × (report ≡ NotBuilt Design)
+design_in d all (Err report) = IsUnreadable all report ⊎ IsNotBuilt d all report
 
 -- The cells are placed by first fit, and this is their netlist: each cell is on a BEL of its own
 -- that admits its type, and each used site has one instance.

@@ -3,6 +3,7 @@ pub mod Words
 pub mod Answer
 pub mod Status
 pub mod Run
+pub mod Implements
 -- For private contracts and proofs.
 pub mod WordsView
 pub mod Named

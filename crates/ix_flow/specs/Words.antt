@@ -1,7 +1,6 @@
--- The words of the command line, without the program's own name.
-use Rattle.std.specs.Prelude.{ℕ, Bool, false, not, ◌&&◌, ◌==◌, List, [], ◌∷◌, Option, Some, None}
-use Rattle.std.specs.Prelude.{if◌then◌else◌, codes}
-use Rattle.std.specs.Str.{bytes_eq}
+-- The words that ask for a run of `flow`.
+use Rattle.std.specs.Prelude.{ℕ, List, Option, Some, None}
+use Rattle.ix_words.specs.Tasks.{Task, flow, command_of}
 
 -- the files that `flow` is given: the device, the design, and the netlist that it writes
 pub record Flow : Type 0 where
@@ -9,16 +8,12 @@ pub record Flow : Type 0 where
   pub design : List ℕ
   pub routed : List ℕ
 
--- 45 is '-'
-abbrev pub begins_with_dash : List ℕ → Bool
-begins_with_dash [] = false
-begins_with_dash (byte ∷ bytes) = byte == 45
+-- the files of the command `flow`; its options and the other commands aren't built yet
+unfoldable pub flow_of : Option Task → Option Flow
+flow_of (Some (flow device design routed None None None None)) =
+    Some (record { device = device; design = design; routed = routed })
+flow_of asked = None
 
--- `flow` and three operands, none of which begins with '-'; no other words are taken
-unfoldable pub flow_of : List (List ℕ) → Option Flow
-flow_of (command ∷ device ∷ design ∷ routed ∷ []) =
-    if bytes_eq command (codes "flow") && not (begins_with_dash device)
-    && not (begins_with_dash design) && not (begins_with_dash routed)
-    then Some (record { device = device; design = design; routed = routed })
-    else None
-flow_of words = None
+-- the same by the words of a command line; none where they are refused
+abbrev pub flow_in : (words : List (List ℕ)) → Option Flow
+flow_in words = flow_of (command_of words)

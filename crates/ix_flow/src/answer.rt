@@ -18,7 +18,9 @@ ghost use Rattle.ix_job.specs.Chain.{Meets};
 ghost use Rattle.ix_job.specs.Views.{content_seen, outcome_seen};
 ghost use Rattle.ix_flow.specs.Answer.{rule_of, opened, opens, device_in, design_in, placed};
 ghost use Rattle.ix_flow.specs.Answer.{written, netlist_for, answer_for, answer, implemented};
-ghost use Rattle.ix_flow.specs.Named.{named_device, named_cells, IsFaultNamed};
+ghost use Rattle.ix_flow.specs.Named.{named_device, named_cells, IsFaultNamed, IsReadable};
+ghost use Rattle.ix_flow.specs.Named.{TellsUnread};
+ghost use Rattle.ix_message.specs.Shape.{Struct};
 
 use ix_capw::BuildFault;
 use ix_device::{Device, DeviceFault};
@@ -28,6 +30,7 @@ use ix_first_fit::{Cell, FitFault, first_fit};
 use ix_first_form::read_first_form;
 use ix_frame::Frame;
 use ix_job::{Content, Outcome, Stop};
+use ix_logic_read::read_netlist;
 use ix_num::{FrameRule, Memory, NameId};
 use ix_phys_write::write_phys;
 use ix_rec::{Bytes, DeviceRec, File, Items, Phys, Place, ReadFault, Rule, Word};
@@ -88,20 +91,16 @@ fn open(file: File, content: &Content) -> Result<Frame<'_>, Stop>
     }
 }
 
-fn broken_device(rule: Rule, place: Place) -> Stop
-    ensures { result ≡ Stop.Refused (Report.Bad File.Device rule place) }
+fn broken(file: File, rule: Rule, place: Place) -> Stop
+    ensures { result ≡ Stop.Refused (Report.Bad file rule place) }
 {
-    Stop::Refused(Report::Bad {
-        file: File::Device,
-        rule,
-        place,
-    })
+    Stop::Refused(Report::Bad { file, rule, place })
 }
 
 // The first rule of a frame that a file breaks, and the first index out of its list.
-fn reading_fault(fault: ReadFault) -> Stop
-    ensures { (all : Segments) → Refuses fault (reading_in_segments device all)
-        → Meets (named_device []) (device_in all) (Err result) }
+fn reading_fault(file: File, fault: ReadFault) -> Stop
+    ensures { (message : Struct) (all : Segments)
+        → Refuses fault (reading_in_segments message all) → TellsUnread file message all result }
 {
     match fault {
         ReadFault::Frame(fault) => {
@@ -109,9 +108,9 @@ fn reading_fault(fault: ReadFault) -> Stop
                 segment: fault.segment,
                 word: fault.word,
             };
-            broken_device(rule_of(fault.rule), place)
+            broken(file, rule_of(fault.rule), place)
         }
-        ReadFault::Index(place) => broken_device(Rule::I1, place),
+        ReadFault::Index(place) => broken(file, Rule::I1, place),
         ReadFault::Memory => Stop::Memory,
     }
 }
@@ -127,7 +126,7 @@ fn check_device(alloc: Global, rec: DeviceRec, names: &Names) -> Result<Device, 
     let _count = names.len();
     match Device::check(alloc, rec, names) {
         Ok(device) => Ok(device),
-        Err(DeviceFault::Broken(rule, place)) => Err(broken_device(rule, place)),
+        Err(DeviceFault::Broken(rule, place)) => Err(broken(File::Device, rule, place)),
         Err(DeviceFault::Memory) => Err(Stop::Memory),
     }
 }
@@ -140,7 +139,19 @@ fn valid_device(alloc: Global, frame: &Frame<'_>, names: &mut Names) -> Result<D
 {
     match read_device(alloc, frame, names) {
         Ok(rec) => check_device(alloc, rec, names),
-        Err(fault) => Err(reading_fault(fault)),
+        Err(fault) => Err(reading_fault(File::Device, fault)),
+    }
+}
+
+/// Reads a design whole, so that the first rule that it breaks as it is read is told. Its record
+/// isn't kept: cells are taken from the frame again where the design is in first form.
+fn readable_design(alloc: Global, frame: &Frame<'_>) -> Result<(), Stop>
+    ensures { IsReadable (segments_of frame.now) result }
+{
+    let mut names = Names::new(alloc);
+    match read_netlist(alloc, frame, &mut names) {
+        Ok(_) => Ok(()),
+        Err(fault) => Err(reading_fault(File::Design, fault)),
     }
 }
 
@@ -155,6 +166,7 @@ fn first_cells(
     ensures { Meets (named_cells names.new)
         (design_in (named_device names.old device.now) (segments_of frame.now)) result }
 {
+    readable_design(alloc, frame)?;
     match read_first_form(alloc, frame, device, names) {
         Ok(Some(cells)) => Ok(cells),
         Ok(None) => Err(Stop::Refused(Report::NotBuilt(File::Design))),

@@ -1,11 +1,12 @@
 //! The top call.
 
-ghost use Rattle.std.specs.Prelude.{◌≡◌, ◌≤◌, Some, map, string_bytes};
+ghost use Rattle.std.specs.Prelude.{◌≡◌, ◌≤◌, ◌⊎◌, Some, map, string_bytes};
 ghost use Rattle.ix_report.specs.Lines.{line_of};
 ghost use Rattle.ix_job.specs.Outside.{outside, PutsLine};
-ghost use Rattle.ix_flow.specs.Words.{flow_of};
+ghost use Rattle.ix_flow.specs.Words.{flow_in};
 ghost use Rattle.ix_flow.specs.WordsView.{flow_view};
 ghost use Rattle.ix_flow.specs.Run.{IsRun, IsComplete};
+ghost use Rattle.ix_flow.specs.Implements.{IsImplemented};
 
 use crate::status::{Status, status_of};
 use crate::words::{FlowWords, flow_words};
@@ -48,22 +49,30 @@ fn run_flow<S: Shelf, O: Sink>(
 /// Runs the program for the words that follow its name, over a shelf of files and a sink for the
 /// line that it prints.
 ///
-/// The words are `flow` and the names of a device, a design and a netlist, none of which begins
-/// with `-`; others are `Usage`. Both inputs are read to their end, then judged, the device first;
+/// The words are those of `flow` with the names of a device, a design and a netlist, and no
+/// options; others are `Usage`. Both inputs are read to their end, then judged, the device first;
 /// then the netlist is written, and the line printed. The netlist may have the name of an input.
 /// Each status, and what it leaves, is said by `IsRun`: the files are as before but where the
 /// netlist was written, and each fault has its cause outside.
 ///
+/// Where the status is `Done`, or `PutFault` as the line alone wasn't put, the file that was
+/// written decodes to a netlist that breaks no rule of the device, and the cells that are extracted
+/// from it are the design's.
+///
 /// Memory is taken before the first file is created, and not after.
 pub fn run<S: Shelf, O: Sink>(alloc: Global, words: &[String], shelf: &mut S, out: &mut O) -> Status
-    ensures run { IsRun (flow_of (map string_bytes words.now))
+    ensures run { IsRun (flow_in (map string_bytes words.now))
         (outside S.files S.read_faults S.write_faults O.told O.faults shelf.old out.old)
         (outside S.files S.read_faults S.write_faults O.told O.faults shelf.new out.new) result }
 
     // It follows that where nothing fails the status is that of the answer to the inputs.
-    ensures complete { IsComplete (flow_of (map string_bytes words.now))
+    ensures complete { IsComplete (flow_in (map string_bytes words.now))
         (outside S.files S.read_faults S.write_faults O.told O.faults shelf.old out.old)
         (outside S.files S.read_faults S.write_faults O.told O.faults shelf.new out.new) result }
+    ensures implements { (result ≡ Status.Done) ⊎ (result ≡ Status.PutFault)
+        → IsImplemented (flow_in (map string_bytes words.now))
+        (outside S.files S.read_faults S.write_faults O.told O.faults shelf.old out.old)
+        (outside S.files S.read_faults S.write_faults O.told O.faults shelf.new out.new) }
 {
     match flow_words(words) {
         Some(flow) => run_flow(alloc, &flow, shelf, out),

@@ -1,8 +1,11 @@
-//! The words of the command line.
+//! The words that ask for a run of `flow`.
 
-ghost use Rattle.std.specs.Prelude.{◌≡◌, map, option_map, string_bytes};
-ghost use Rattle.ix_flow.specs.Words.{begins_with_dash, flow_of};
+ghost use Rattle.std.specs.Prelude.{◌≡◌, Some, map, option_map, string_bytes};
+ghost use Rattle.ix_words.specs.Views.{command_view};
+ghost use Rattle.ix_flow.specs.Words.{flow_in, flow_of};
 ghost use Rattle.ix_flow.specs.WordsView.{flow_view};
+
+use ix_words::{Command, read_words};
 
 /// The files that `flow` is given.
 #[derive(Clone, Copy, Debug)]
@@ -12,30 +15,33 @@ pub(crate) struct FlowWords<'a> {
     pub routed: &'a str,
 }
 
-fn begins_with_dash(word: &str) -> bool
-    ensures { result ≡ begins_with_dash word.now }
+/// The files of a command `flow` without options. These and the other commands aren't built yet.
+#[tactic(auto, unfolding(crate::specs::Words::flow_of))]
+fn plain_flow(command: Command<'_>) -> Option<FlowWords<'_>>
+    ensures { option_map flow_view result ≡ flow_of (Some (command_view command.entry)) }
 {
-    matches!(word.as_bytes(), [b'-', ..])
+    match command {
+        Command::Flow {
+            device,
+            design,
+            routed,
+            seed: None,
+            moves: None,
+            rounds: None,
+            trials: None,
+        } => Some(FlowWords {
+            device,
+            design,
+            routed,
+        }),
+        _ => None,
+    }
 }
 
-/// The words of `flow`, where they are `flow` and three operands that don't begin with `-`.
+/// The files of `flow`, where the words ask for it without options.
 #[tactic(auto, unfolding(crate::specs::Words::flow_of))]
 pub(crate) fn flow_words(words: &[String]) -> Option<FlowWords<'_>>
-    ensures { option_map flow_view result ≡ flow_of (map string_bytes words.now) }
+    ensures { option_map flow_view result ≡ flow_in (map string_bytes words.now) }
 {
-    let [command, device, design, routed] = words else {
-        return None;
-    };
-    let plain = !begins_with_dash(device.as_str())
-        && !begins_with_dash(design.as_str())
-        && !begins_with_dash(routed.as_str());
-    if command.as_str() == "flow" && plain {
-        Some(FlowWords {
-            device: device.as_str(),
-            design: design.as_str(),
-            routed: routed.as_str(),
-        })
-    } else {
-        None
-    }
+    plain_flow(read_words(words)?)
 }

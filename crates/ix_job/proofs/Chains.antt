@@ -7,19 +7,23 @@ use Rattle.ix_job.specs.declared.stop.Stop.TheVariants.{Refused, Memory}
 use Rattle.ix_job.specs.Chain.{Step, and_then, Meets}
 
 -- the first step stops
-pub stops_first : {A B X Y : Type 0} (view : X → A) (all : Y → B) (step : Step A) (next : A → Step B) (stop : Stop) → Meets view step (Err stop) → Meets all (and_then step next) (Err stop)
+pub stops_first : {A B X Y : Type 0} (view : X → A) (all : Y → B) (step : Step A) (next : A
+    → Step B) (stop : Stop) → Meets view step (Err stop) → Meets all (and_then step next) (Err stop)
 stops_first view all step next (Refused report) h = inl h
 stops_first view all step next Memory h = tt
 
 -- the first step goes on
-pub goes_on : {A B Y : Type 0} (all : Y → B) (step : Step A) (next : A → Step B) (a : A) (r : Result Y Stop) → step (Ok a) → Meets all (next a) r → Meets all (and_then step next) r
+pub goes_on : {A B Y : Type 0} (all : Y → B) (step : Step A) (next : A → Step B) (a : A)
+    (r : Result Y Stop) → step (Ok a) → Meets all (next a) r → Meets all (and_then step next) r
 goes_on all step next a (Ok b) h k = (a, h, k)
 goes_on all step next a (Err (Refused report)) h k = inr (a, h, k)
 goes_on all step next a (Err Memory) h k = tt
 
 -- the same at the exit of a `?`
-pub exits_first : {A B X Y : Type 0} (view : X → A) (all : Y → B) (step : Step A) (next : A → Step B) (stop : Stop) (r : Result Y Stop) → IsErrAnd r (λ e. e ≡ stop)
+pub exits_first : {A B X Y : Type 0} (view : X → A) (all : Y → B) (step : Step A) (next : A
+    → Step B) (stop : Stop) (r : Result Y Stop) → IsErrAnd r (λ e. e ≡ stop)
     → Meets view step (Err stop) → Meets all (and_then step next) r
 exits_first view all step next stop r e h =
     let p = err_from_is_err_and r e in
-    subst (Meets all (and_then step next)) (sym (p.1 ∙ ap Err p.2)) (stops_first view all step next stop h)
+    subst (Meets all (and_then step next)) (sym (p.1 ∙ ap Err p.2))
+    (stops_first view all step next stop h)

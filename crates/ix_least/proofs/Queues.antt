@@ -15,25 +15,25 @@ use Rattle.ix_least.specs.declared.queue.Near.{Near}
 use Rattle.ix_least.specs.Queue.{Adds, Takes, TakesPoint, Precedes, entry_cmp, near_cmp, near_entry}
 
 -- what two comparisons say where the first entry isn't less
-not_less : (a b c : Ordering) (k l d e : ℕ) → MatchOrdering a (l < k) (l ≡ k) (k < l) →
-    MatchOrdering b (e < d) (e ≡ d) (d < e) → is_lt (ordering_then a (ordering_then b c)) ≡ false →
+not_less : (a b : Ordering) (k l d e : ℕ) → MatchOrdering a (l < k) (l ≡ k) (k < l) →
+    MatchOrdering b (e < d) (e ≡ d) (d < e) → is_lt (ordering_then a b) ≡ false →
     (k < l) ⊎ ((k ≡ l) × (d ≤ e))
-not_less Less b c k l d e p q h = cc
-not_less Greater b c k l d e p q h = inl p
-not_less Equal Less c k l d e p q h = cc
-not_less Equal Equal c k l d e p q h = inr (sym p, omega arith)
-not_less Equal Greater c k l d e p q h = inr (sym p, omega arith)
+not_less Less b k l d e p q h = cc
+not_less Greater b k l d e p q h = inl p
+not_less Equal Less k l d e p q h = cc
+not_less Equal Equal k l d e p q h = inr (sym p, omega arith)
+not_less Equal Greater k l d e p q h = inr (sym p, omega arith)
 
-not_less_near : (b c : Ordering) (d e : ℕ) → MatchOrdering b (e < d) (e ≡ d) (d < e) →
-    is_lt (ordering_then b c) ≡ false → (d < e) ⊎ (d ≡ e)
-not_less_near Less c d e q h = cc
-not_less_near Equal c d e q h = inr (sym q)
-not_less_near Greater c d e q h = inl q
+not_less_near : (b : Ordering) (d e : ℕ) → MatchOrdering b (e < d) (e ≡ d) (d < e) →
+    is_lt b ≡ false → (d < e) ⊎ (d ≡ e)
+not_less_near Less d e q h = cc
+not_less_near Equal d e q h = inr (sym q)
+not_less_near Greater d e q h = inl q
 
 -- an entry that isn't less than another comes no later
 pub precedes_from_order : (x y : Entry) → lt_by_cmp entry_cmp x y ≡ false → Precedes x.key x.dist y
 precedes_from_order x y h = not_less (nat_cmp y.key x.key) (nat_cmp y.dist x.dist)
-    (nat_cmp x.point y.point) x.key y.key x.dist y.dist (ranked y.key x.key _ refl)
+    x.key y.key x.dist y.dist (ranked y.key x.key _ refl)
     (ranked y.dist x.dist _ refl) h
 
 -- what holds of each element by recursion holds of one
@@ -95,8 +95,7 @@ takes_from_pop entry old new heap p g = record {
 near_precedes : (x y : Near) → lt_by_cmp near_cmp x y ≡ false →
     Precedes x.dist x.dist (near_entry y)
 near_precedes x y h =
-    elim (not_less_near (nat_cmp y.dist x.dist) (nat_cmp x.point y.point) x.dist y.dist
-    (ranked y.dist x.dist _ refl) h) [
+    elim (not_less_near (nat_cmp y.dist x.dist) x.dist y.dist (ranked y.dist x.dist _ refl) h) [
       | inl less ↦ inl less
       | inr same ↦
           inr (same, omega arith)

@@ -8,10 +8,10 @@ use Rattle.ix_least.specs.declared.queue.Near.{Near}
 -- the order of the heaps
 abbrev pub entry_cmp : Entry → Entry → Ordering
 entry_cmp = then_cmp (flip_args (on (λ e. e.key) nat_cmp))
-    (then_cmp (flip_args (on (λ e. e.dist) nat_cmp)) (on (λ e. e.point) nat_cmp))
+    (flip_args (on (λ e. e.dist) nat_cmp))
 
 abbrev pub near_cmp : Near → Near → Ordering
-near_cmp = then_cmp (flip_args (on (λ e. e.dist) nat_cmp)) (on (λ e. e.point) nat_cmp)
+near_cmp = flip_args (on (λ e. e.dist) nat_cmp)
 
 -- the entry of a point whose key is its cost
 abbrev pub near_entry : Near → Entry

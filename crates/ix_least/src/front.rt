@@ -124,6 +124,7 @@ fn leave<E: Edges, C: Costs, B: Bounds, Q: Queue>(
 
 /// Offers a label of a point. It is taken where it costs less than the point's own, or as much by a
 /// lower edge.
+#[inline(always)]
 fn offer<B: Bounds, Q: Queue>(
     labels: &mut Labels,
     queue: &mut Q,

@@ -1,10 +1,11 @@
 //! Queues of the points that are to be settled.
 
-ghost use Rattle.std.specs.Prelude.{◌≡◌, ℕ, ◌+◌, List, [], length, Contains, OnOk, IfSome, IfNone};
+ghost use Rattle.std.specs.Prelude.{◌≡◌, ℕ, ◌+◌, nat_eq, List, [], length, Contains, OnOk};
+ghost use Rattle.std.specs.Prelude.{IfSome, IfNone};
 ghost use Rattle.std.proofs.Common.{rules};
 ghost use Rattle.std.specs.Cmp.{partial_order_from_own_ties};
 ghost use Rattle.std.specs.Cmp.Rules.{comparing};
-ghost use Rattle.std.specs.Ordering.{nat_cmp, on, flip_args, then_cmp, as_partial_cmp};
+ghost use Rattle.std.specs.Ordering.{nat_cmp, on, flip_args, then_cmp, as_partial_cmp, eq_of_both};
 
 use ix_num::Memory;
 use std::alloc::Global;
@@ -13,40 +14,51 @@ use std::collections::BinaryHeap;
 use std::marker::Model;
 
 /// A point that was reached: at which cost, and the key by which it is taken.
-#[derive(Clone, Copy, PartialEq, Eq)]
+#[derive(Clone, Copy)]
 pub(crate) struct Entry {
     pub(crate) key: u64,
     pub(crate) dist: u64,
     pub(crate) point: u32,
 }
 
+// Points of one key and cost are alike: which of them is taken first changes no answer, and each
+// comparison of a heap that asks more costs time.
+impl PartialEq for Entry {
+    ghost eq = { eq_of_both (on (λ e. e.key) nat_eq) (on (λ e. e.dist) nat_eq) };
+
+    ghost laws = { Prim.search (comparing, rules) };
+
+    fn eq(&self, other: &Entry) -> bool {
+        self.key == other.key && self.dist == other.dist
+    }
+}
+
+impl Eq for Entry {
+    ghost laws = { Prim.search (comparing, rules) };
+}
+
 // The greatest entry is the one with the least key, and of these the one with the least cost.
 impl Ord for Entry {
     ghost cmp = { then_cmp (flip_args (on (λ e. e.key) nat_cmp))
-        (then_cmp (flip_args (on (λ e. e.dist) nat_cmp)) (on (λ e. e.point) nat_cmp)) };
+        (flip_args (on (λ e. e.dist) nat_cmp)) };
 
-    ghost total = { Prim.search (comparing, rules) depth 9 };
+    ghost total = { Prim.search (comparing, rules) };
 
-    ghost matches_partial_cmp = { Prim.search (comparing, rules) depth 9 };
+    ghost matches_partial_cmp = { Prim.search (comparing, rules) };
 
-    ghost matches_eq = { Prim.search (comparing, rules) depth 9 };
+    ghost matches_eq = { Prim.search (comparing, rules) };
 
     fn cmp(&self, other: &Entry) -> Ordering {
-        other.key.cmp(&self.key).then(
-            other
-                .dist
-                .cmp(&self.dist)
-                .then(self.point.cmp(&other.point)),
-        )
+        other.key.cmp(&self.key).then(other.dist.cmp(&self.dist))
     }
 }
 
 impl PartialOrd for Entry {
     ghost partial_cmp = { as_partial_cmp (then_cmp (flip_args (on (λ e. e.key) nat_cmp))
-        (then_cmp (flip_args (on (λ e. e.dist) nat_cmp)) (on (λ e. e.point) nat_cmp))) };
+        (flip_args (on (λ e. e.dist) nat_cmp))) };
 
-    ghost laws = { partial_order_from_own_ties (Prim.search (comparing, rules) depth 9)
-        (Prim.search (comparing, rules) depth 9) };
+    ghost laws = { partial_order_from_own_ties (Prim.search (comparing, rules))
+        (Prim.search (comparing, rules)) };
 
     fn partial_cmp(&self, other: &Entry) -> Option<Ordering> {
         Some(self.cmp(other))
@@ -54,15 +66,30 @@ impl PartialOrd for Entry {
 }
 
 /// A point that was reached, where its cost is its key. It takes 16 bytes and not 24.
-#[derive(Clone, Copy, PartialEq, Eq)]
+#[derive(Clone, Copy)]
 pub(crate) struct Near {
     pub(crate) dist: u64,
     pub(crate) point: u32,
 }
 
+// Points of one cost are alike, as above.
+impl PartialEq for Near {
+    ghost eq = { on (λ e. e.dist) nat_eq };
+
+    ghost laws = { Prim.search (comparing, rules) };
+
+    fn eq(&self, other: &Near) -> bool {
+        self.dist == other.dist
+    }
+}
+
+impl Eq for Near {
+    ghost laws = { Prim.search (comparing, rules) };
+}
+
 // The greatest is the one with the least cost.
 impl Ord for Near {
-    ghost cmp = { then_cmp (flip_args (on (λ e. e.dist) nat_cmp)) (on (λ e. e.point) nat_cmp) };
+    ghost cmp = { flip_args (on (λ e. e.dist) nat_cmp) };
 
     ghost total = { Prim.search (comparing, rules) };
 
@@ -71,16 +98,12 @@ impl Ord for Near {
     ghost matches_eq = { Prim.search (comparing, rules) };
 
     fn cmp(&self, other: &Near) -> Ordering {
-        other
-            .dist
-            .cmp(&self.dist)
-            .then(self.point.cmp(&other.point))
+        other.dist.cmp(&self.dist)
     }
 }
 
 impl PartialOrd for Near {
-    ghost partial_cmp = { as_partial_cmp (then_cmp (flip_args (on (λ e. e.dist) nat_cmp))
-        (on (λ e. e.point) nat_cmp)) };
+    ghost partial_cmp = { as_partial_cmp (flip_args (on (λ e. e.dist) nat_cmp)) };
 
     ghost laws = { partial_order_from_own_ties (Prim.search (comparing, rules))
         (Prim.search (comparing, rules)) };

@@ -2,9 +2,7 @@
 
 ghost use Rattle.std.specs.Prelude.{◌≡◌, ◌<◌, ◌≤◌};
 
-use crate::bounds::{Table, are_consistent};
-use crate::cells::Cells;
-use crate::grid::Grid;
+use ix_grids::{are_consistent, distances};
 use ix_least::{Costs, Edges, Path, Search};
 use ix_num::Memory;
 use std::alloc::Global;
@@ -18,12 +16,12 @@ pub(crate) struct Told {
     pub(crate) fold: u64,
 }
 
-fn with_path(told: Told, cells: &Cells, path: &Path) -> Told {
+fn with_path<C: Costs>(told: Told, costs: &C, path: &Path) -> Told {
     let mut cost = told.cost;
     let mut fold = told.fold;
     for i in 0..path.len() {
         let (edge, point) = path.at(i);
-        cost = cost.wrapping_add(cells.cost(point).unwrap_or(0));
+        cost = cost.wrapping_add(costs.cost(point).unwrap_or(0));
         fold = fold
             .wrapping_mul(31)
             .wrapping_add(u64::from(edge))
@@ -37,28 +35,17 @@ fn with_path(told: Told, cells: &Cells, path: &Path) -> Told {
     }
 }
 
-/// The distance of each point from the target along rows and columns.
-fn distances(alloc: Global, grid: Grid, target: u32) -> Result<Table, Memory> {
-    let mut bounds = Vec::new(alloc);
-    let width = grid.width().max(1);
-    for p in 0..grid.points() {
-        let rows = (p / width).abs_diff(target / width);
-        let columns = (p % width).abs_diff(target % width);
-        bounds.push(u64::from(rows) + u64::from(columns))?;
-    }
-    Ok(Table { bounds })
-}
-
-/// What is told of the paths from a source, by searches without bounds or with them.
-pub(crate) fn told_from(
+/// What is told of the paths from a source, by searches without bounds, or with the distances on a
+/// grid of this width as bounds.
+pub(crate) fn told_from<E: Edges, C: Costs>(
     alloc: Global,
     search: &mut Search,
-    grid: Grid,
-    cells: &Cells,
+    edges: &E,
+    costs: &C,
     source: u32,
-    bounded: bool,
+    bounds: Option<usize>,
 ) -> Result<Told, Memory>
-    requires points { grid.points ≡ search.old }
+    requires points { E.point_count edges.now ≡ search.old }
     requires source { source < search.old }
     ensures { search.new ≡ search.old }
 {
@@ -68,19 +55,21 @@ pub(crate) fn told_from(
         cost: 0,
         fold: 0,
     };
-    for target in 0..grid.points() {
-        let found = if bounded {
-            let table = distances(alloc, grid, target)?;
-            if are_consistent(&grid, cells, &table, target) {
-                search.find_bounded(&grid, cells, &table, &[source], target)?
-            } else {
-                None
+    let points = edges.points();
+    for target in 0..points {
+        let found = match bounds {
+            Some(width) => {
+                let table = distances(alloc, width, points, target)?;
+                if are_consistent(edges, costs, &table, target) {
+                    search.find_bounded(edges, costs, &table, &[source], target)?
+                } else {
+                    None
+                }
             }
-        } else {
-            search.find(&grid, cells, &[source], target)?
+            None => search.find(edges, costs, &[source], target)?,
         };
         if let Some(path) = found {
-            told = with_path(told, cells, &path);
+            told = with_path(told, costs, &path);
         }
         told.fold = told.fold.wrapping_mul(31);
     }

@@ -1,5 +1,4 @@
-//! Tests of whole runs over real files. Runs over a shelf in memory are tried by a program that
-//! reads its cases from files.
+//! Tests of whole runs over real files. Runs over a shelf in memory are the cases of a program.
 #![tactic(auto)]
 
 #[cfg(test)]

@@ -44,15 +44,12 @@ fn is_real_run(rt: &HostRuntime, words: &str, code: u8, line: &str) -> Result<bo
 /// Whether a real file has the bytes of these digits.
 fn is_real(rt: &HostRuntime, alloc: Global, name: &str, hex: &str) -> Result<bool, Fail> {
     let file = fs::read(rt, name)?;
-    let bytes = bytes_of(alloc, hex)?;
-    Ok(file.as_slice() == bytes.as_slice())
+    Ok(file.as_slice() == bytes_of(alloc, hex)?.as_slice())
 }
 
 /// Makes a real file of the bytes of these digits.
 fn make_real(rt: &HostRuntime, alloc: Global, name: &str, hex: &str) -> Result<(), Fail> {
-    let bytes = bytes_of(alloc, hex)?;
-    fs::write(rt, name, bytes.as_slice())?;
-    Ok(())
+    Ok(fs::write(rt, name, bytes_of(alloc, hex)?.as_slice())?)
 }
 
 #[test]
@@ -64,8 +61,8 @@ fn real_faults(rt: HostRuntime) -> Result<(), Fail> {
     make_real(&rt, alloc, "n", DESIGN)?;
     let folder = is_real_run(&rt, "flow . n r", 7, "read fault: .\n")?;
     assert!(rt; folder, "the device is a folder");
-    let nowhere = is_real_run(&rt, "flow d n no/r", 7, "write fault: no/r\n")?;
-    assert!(rt; nowhere, "there is no folder for the netlist");
+    let lost = is_real_run(&rt, "flow d n no/r", 7, "write fault: no/r\n")?;
+    assert!(rt; lost, "there is no folder for the netlist");
     Ok(())
 }
 

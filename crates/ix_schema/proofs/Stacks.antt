@@ -1,5 +1,5 @@
 -- Passing over branches with a stack of the lists that aren't done, the last on top.
-use Rattle.std.proofs.Common.{◌≡◌, ◌≤◌, ◌<◌, ◌+◌, ◌-◌, ◌*◌, ℕ, zero, suc, List, [], ◌∷◌, ◌++◌, length, length-append, Result, Ok, Err, refl, sym, ap, ◌∙◌, arith}
+use Rattle.std.proofs.Common.{◌≡◌, ◌≤◌, ◌<◌, ◌+◌, ◌-◌, ◌*◌, ℕ, zero, suc, List, [], ◌∷◌, ◌++◌, length, length-append, Result, Ok, Err, refl, sym, ap, ◌∙◌, ◌⊎◌, inl, inr, arith}
 use Rattle.std.specs.Prelude.{IfOk}
 use Rattle.std.specs.List.{sum_by}
 use Rattle.std.proofs.lemmas.List.Sums.{sum_by-cons, sum_by-append}
@@ -9,6 +9,7 @@ use Rattle.ix_frame.specs.Target.{Elements}
 use Rattle.ix_frame.specs.Objects.{elements_at, element_of}
 use Rattle.ix_frame.specs.Views.{elements_of}
 use Rattle.ix_schema.specs.declared.branches.Open.{Open}
+use Rattle.ix_schema.specs.Open.{Puts}
 use Rattle.ix_schema.specs.Passed.{Left, branches_left}
 use Rattle.ix_schema.proofs.BranchLemmas.{less_left, same_left, bind_same}
 
@@ -140,3 +141,59 @@ falls xs ys x b is =
 pub nothing_in : {A : Type 0} (xs : List A) → length xs ≡ 0 → xs ≡ []
 nothing_in [] h = refl
 nothing_in (x ∷ xs) h = absurd (omega arith)
+
+-- Putting a list on the stack. One that is done isn't put there, and would change nothing.
+
+pub put_left : (x : Open) (old new : List Open) → Puts x old new → (b : ℕ)
+    → stack_left new b ≡ stack_left (old ++ x ∷ []) b
+put_left x old new (inl is) b = ap (λ (xs : List Open). stack_left xs b) is
+put_left x old new (inr done) b = ap (λ (xs : List Open). stack_left xs b) done.1
+    ∙ one_done (old ++ x ∷ []) old x b (stack_left (old ++ x ∷ []) b) refl done.0 refl
+
+put_work : (x : Open) (old new : List Open) → Puts x old new → work new ≡ work old + to_pass x
+put_work x old new (inl is) = work_of new old x is
+put_work x old new (inr done) =
+    let same : work new ≡ work old = ap work done.1 in
+    let none : to_pass x ≡ 0 = to_pass_none x done.0 in
+    omega arith
+  where
+    to_pass_none : (x : Open) → (elements_of x.list).count ≤ x.next → to_pass x ≡ 0
+    to_pass_none x le = omega arith
+
+put_length : (x : Open) (old new : List Open) → Puts x old new → length new ≤ length old + 1
+put_length x old new (inl is) =
+    let m : length new ≡ length old + 1 = rw is (length-append old (x ∷ [])) in omega arith
+put_length x old new (inr done) = let m : length new ≡ length old = ap length done.1 in omega arith
+
+any_left : (r : Left) → IfOk r (λ n. Unit {0})
+any_left (Ok n) = tt
+any_left (Err e) = tt
+
+-- a turn of the loop: the list on top goes on, and what is behind its branch comes first
+pub one_put : (ys one two : List Open) (after below : Open) (left : ℕ) (total : Left)
+    → Puts after ys one → Puts below one two
+    → stack_left ((ys ++ after ∷ []) ++ below ∷ []) left ≡ total → stack_left two left ≡ total
+one_put ys one two after below left total first second h =
+    put_left below one two second left ∙ top_first one below left
+    ∙ bind_same (λ n. Unit {0}) (rest_left below left) (stack_left one)
+    (stack_left (ys ++ after ∷ [])) (any_left (rest_left below left))
+    (λ n u. put_left after ys one first n)
+    ∙ sym (top_first (ys ++ after ∷ []) below left) ∙ h
+
+pub falls_put : (xs ys one two : List Open) (x after below : Open) (b left : ℕ)
+    → xs ≡ ys ++ x ∷ [] → x.next < (elements_of x.list).count
+    → after ≡ record { list = x.list; next = x.next + 1 } → below.next ≡ 0
+    → (elements_of below.list).count + left ≤ b → Puts after ys one → Puts below one two
+    → 2 * (left + work two) + length two < 2 * (b + work xs) + length xs
+falls_put xs ys one two x after below b left is lt next first few p q =
+    let whole = falls_on xs ys x after below b left is lt next first few in
+    let a = put_work after ys one p in
+    let c = put_work below one two q in
+    let d = put_length after ys one p in
+    let e = put_length below one two q in
+    let w1 = work_of (ys ++ after ∷ []) ys after refl in
+    let w2 = work_of ((ys ++ after ∷ []) ++ below ∷ []) (ys ++ after ∷ []) below refl in
+    let m1 : length (ys ++ after ∷ []) ≡ length ys + 1 = length-append ys (after ∷ []) in
+    let m2 : length ((ys ++ after ∷ []) ++ below ∷ []) ≡ length (ys ++ after ∷ []) + 1 =
+    length-append (ys ++ after ∷ []) (below ∷ []) in
+    omega arith

@@ -9,17 +9,28 @@ use Rattle.ix_flow.proofs.answer.answer.Goals as goal
 
 pub returns-in_err-frame : goal.returns-in_err-frame
 returns-in_err-frame c =
-    exits_first segments_of outcome_seen (opens Device (content_seen c.args.device.now)) (λ all. and_then (device_in all) (λ d. answer_for d (content_seen c.args.design.now))) c.in_err-frame.field-0.0 c.from_residual.result
+    exits_first segments_of outcome_seen (opens Device (content_seen c.args.device.now))
+    (λ all. and_then (device_in all) (λ d. answer_for d (content_seen c.args.design.now)))
+    c.in_err-frame.field-0.0 c.from_residual.result
     c.from_residual.ensures.1 c.in_err-frame.ensures
 
 pub returns-in_err-device : goal.returns-in_err-device
 returns-in_err-device c =
-    goes_on outcome_seen (opens Device (content_seen c.args.device.now)) (λ all. and_then (device_in all) (λ d. answer_for d (content_seen c.args.design.now))) (segments_of c.in_ok-frame.frame) _ c.in_ok-frame.ensures
-    (exits_first (named_device c.valid_device.new.names) outcome_seen (device_in (segments_of c.in_ok-frame.frame)) (λ d. answer_for d (content_seen c.args.design.now))
-    c.in_err-device.field-0.0 c.from_residual-in_err-device.result c.from_residual-in_err-device.ensures.1 c.in_err-device.ensures.valid)
+    goes_on outcome_seen (opens Device (content_seen c.args.device.now))
+    (λ all. and_then (device_in all) (λ d. answer_for d (content_seen c.args.design.now)))
+    (segments_of c.in_ok-frame.frame) _ c.in_ok-frame.ensures
+    (exits_first (named_device c.valid_device.new.names) outcome_seen
+    (device_in (segments_of c.in_ok-frame.frame))
+    (λ d. answer_for d (content_seen c.args.design.now))
+    c.in_err-device.field-0.0 c.from_residual-in_err-device.result
+    c.from_residual-in_err-device.ensures.1 c.in_err-device.ensures.valid)
 
 pub returns : goal.returns
 returns c =
-    goes_on outcome_seen (opens Device (content_seen c.args.device.now)) (λ all. and_then (device_in all) (λ d. answer_for d (content_seen c.args.design.now))) (segments_of c.in_ok-frame.frame) _ c.in_ok-frame.ensures
-    (goes_on outcome_seen (device_in (segments_of c.in_ok-frame.frame)) (λ d. answer_for d (content_seen c.args.design.now))
-    (named_device c.valid_device.new.names c.in_ok-device.device) c.answer_for.result c.in_ok-device.ensures.valid c.answer_for.ensures)
+    goes_on outcome_seen (opens Device (content_seen c.args.device.now))
+    (λ all. and_then (device_in all) (λ d. answer_for d (content_seen c.args.design.now)))
+    (segments_of c.in_ok-frame.frame) _ c.in_ok-frame.ensures
+    (goes_on outcome_seen (device_in (segments_of c.in_ok-frame.frame))
+    (λ d. answer_for d (content_seen c.args.design.now))
+    (named_device c.valid_device.new.names c.in_ok-device.device) c.answer_for.result
+    c.in_ok-device.ensures.valid c.answer_for.ensures)

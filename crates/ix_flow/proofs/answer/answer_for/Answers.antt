@@ -10,20 +10,35 @@ use Rattle.ix_flow.proofs.answer.answer_for.Goals as goal
 
 pub returns-in_err-frame : goal.returns-in_err-frame
 returns-in_err-frame c =
-    exits_first segments_of outcome_seen (opens Design (content_seen c.args.design.now)) (λ all. and_then (design_in (named_device c.args.names.now c.args.device.now) all) (λ cells. netlist_for c.args.device.now cells)) c.in_err-frame.field-0.0 c.from_residual.result
+    exits_first segments_of outcome_seen (opens Design (content_seen c.args.design.now))
+    (λ all. and_then (design_in (named_device c.args.names.now c.args.device.now) all)
+    (λ cells. netlist_for c.args.device.now cells)) c.in_err-frame.field-0.0
+    c.from_residual.result
     c.from_residual.ensures.1 c.in_err-frame.ensures
 
 pub returns-in_err-cells : goal.returns-in_err-cells
 returns-in_err-cells c =
-    goes_on outcome_seen (opens Design (content_seen c.args.design.now)) (λ all. and_then (design_in (named_device c.args.names.now c.args.device.now) all) (λ cells. netlist_for c.args.device.now cells)) (segments_of c.in_ok-frame.frame) _ c.in_ok-frame.ensures
-    (exits_first (named_cells c.first_cells.new.names) outcome_seen (design_in (named_device c.args.names.now c.args.device.now) (segments_of c.in_ok-frame.frame)) (λ cells. netlist_for c.args.device.now cells)
-    c.in_err-cells.field-0.0 c.from_residual-in_err-cells.result c.from_residual-in_err-cells.ensures.1 c.in_err-cells.ensures)
+    goes_on outcome_seen (opens Design (content_seen c.args.design.now))
+    (λ all. and_then (design_in (named_device c.args.names.now c.args.device.now) all)
+    (λ cells. netlist_for c.args.device.now cells))
+    (segments_of c.in_ok-frame.frame) _ c.in_ok-frame.ensures
+    (exits_first (named_cells c.first_cells.new.names) outcome_seen
+    (design_in (named_device c.args.names.now c.args.device.now)
+    (segments_of c.in_ok-frame.frame)) (λ cells. netlist_for c.args.device.now cells)
+    c.in_err-cells.field-0.0 c.from_residual-in_err-cells.result
+    c.from_residual-in_err-cells.ensures.1 c.in_err-cells.ensures)
 
 pub netlist_for-requires-clause-named : goal.netlist_for-requires-clause-named
-netlist_for-requires-clause-named c = still_named c.args.names.now c.first_cells.new.names c.args.device.now c.in_ok-cells.ensures.keeps c.requires.named
+netlist_for-requires-clause-named c = still_named c.args.names.now c.first_cells.new.names
+    c.args.device.now c.in_ok-cells.ensures.keeps c.requires.named
 
 pub returns : goal.returns
 returns c =
-    goes_on outcome_seen (opens Design (content_seen c.args.design.now)) (λ all. and_then (design_in (named_device c.args.names.now c.args.device.now) all) (λ cells. netlist_for c.args.device.now cells)) (segments_of c.in_ok-frame.frame) _ c.in_ok-frame.ensures
-    (goes_on outcome_seen (design_in (named_device c.args.names.now c.args.device.now) (segments_of c.in_ok-frame.frame)) (λ cells. netlist_for c.args.device.now cells)
-    (named_cells c.first_cells.new.names c.in_ok-cells.cells) c.netlist_for.result c.in_ok-cells.ensures c.netlist_for.ensures)
+    goes_on outcome_seen (opens Design (content_seen c.args.design.now))
+    (λ all. and_then (design_in (named_device c.args.names.now c.args.device.now) all)
+    (λ cells. netlist_for c.args.device.now cells))
+    (segments_of c.in_ok-frame.frame) _ c.in_ok-frame.ensures
+    (goes_on outcome_seen (design_in (named_device c.args.names.now c.args.device.now)
+    (segments_of c.in_ok-frame.frame)) (λ cells. netlist_for c.args.device.now cells)
+    (named_cells c.first_cells.new.names c.in_ok-cells.cells) c.netlist_for.result
+    c.in_ok-cells.ensures c.netlist_for.ensures)

@@ -9,6 +9,8 @@ use Rattle.ix_flow.proofs.answer.check_device.Goals as goal
 
 pub returns-in-Err-Broken : goal.returns-in-Err-Broken
 returns-in-Err-Broken c all reads named =
-    subst (λ stop. Meets (named_device c.args.names.now) (device_in all) (Err stop)) (sym c.broken_device.ensures)
+    subst (λ stop. Meets (named_device c.args.names.now) (device_in all) (Err stop))
+    (sym c.broken.ensures)
     (rule_told all c.args.names.now c.args.rec _ _ (search rules) reads named
-    (subst (IsFault (first_broken c.args.rec)) c.in-Err-Broken.field-0-is c.in-Err-Broken.ensures.broken))
+    (subst (IsFault (first_broken c.args.rec)) c.in-Err-Broken.field-0-is
+    c.in-Err-Broken.ensures.broken))

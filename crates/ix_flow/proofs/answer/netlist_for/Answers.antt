@@ -6,9 +6,14 @@ use Rattle.ix_flow.proofs.answer.netlist_for.Goals as goal
 
 pub returns-in_err-phys : goal.returns-in_err-phys
 returns-in_err-phys c =
-    exits_first (λ phys. phys) outcome_seen (placed c.args.device.now (named_cells c.args.names.now c.args.cells.now)) (λ phys. written (named_cells c.args.names.now c.args.cells.now) phys) c.in_err-phys.field-0.0 c.from_residual.result
+    exits_first (λ phys. phys) outcome_seen
+    (placed c.args.device.now (named_cells c.args.names.now c.args.cells.now))
+    (λ phys. written (named_cells c.args.names.now c.args.cells.now) phys)
+    c.in_err-phys.field-0.0 c.from_residual.result
     c.from_residual.ensures.1 c.in_err-phys.ensures.placed
 
 pub returns : goal.returns
 returns c =
-    goes_on outcome_seen (placed c.args.device.now (named_cells c.args.names.now c.args.cells.now)) (λ phys. written (named_cells c.args.names.now c.args.cells.now) phys) c.in_ok-phys.phys c.write.result c.in_ok-phys.ensures.placed c.write.ensures
+    goes_on outcome_seen (placed c.args.device.now (named_cells c.args.names.now c.args.cells.now))
+    (λ phys. written (named_cells c.args.names.now c.args.cells.now) phys) c.in_ok-phys.phys
+    c.write.result c.in_ok-phys.ensures.placed c.write.ensures

@@ -10,5 +10,6 @@ invariant-loop-i g l = record {
   files : g.S.Shelf.files l.shelf ≡ g.S.Shelf.files l.initial.shelf;
   read : NoneFalls (g.S.Shelf.read_faults l.initial.shelf) (g.S.Shelf.read_faults l.shelf);
   write : g.S.Shelf.write_faults l.shelf ≡ g.S.Shelf.write_faults l.initial.shelf;
-  contents : (files : Files) → g.S.Shelf.files l.initial.shelf ≡ Some files → AreContents files (take l.i (map (λ name. name.now) l.names)) (map content_seen l.contents);
+  contents : (files : Files) → g.S.Shelf.files l.initial.shelf ≡ Some files
+      → AreContents files (take l.i (map (λ name. name.now) l.names)) (map content_seen l.contents);
 }

@@ -10,6 +10,9 @@ returns-clause-finished g c =
     inr record {
       place = c.in-Err.unwritten.place;
       cut = cut;
-      told = subst (λ (x : Report). Tells x (g.O.Sink.told c.args.out.now) (g.O.Sink.told c.tell-in-Err.new.out) (g.O.Sink.faults c.args.out.now) (g.O.Sink.faults c.tell-in-Err.new.out) c.tell-in-Err.result)
-          (fault_told _ _ c.in-Err.unwritten.place cut.name _ c.requires cut.which c.line_at.ensures) c.tell-in-Err.ensures.told;
+      told = subst (λ (x : Report). Tells x (g.O.Sink.told c.args.out.now)
+          (g.O.Sink.told c.tell-in-Err.new.out) (g.O.Sink.faults c.args.out.now)
+          (g.O.Sink.faults c.tell-in-Err.new.out) c.tell-in-Err.result)
+          (fault_told _ _ c.in-Err.unwritten.place cut.name _ c.requires cut.which
+          c.line_at.ensures) c.tell-in-Err.ensures.told;
     }

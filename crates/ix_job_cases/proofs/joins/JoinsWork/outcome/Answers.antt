@@ -1,4 +1,5 @@
-use Rattle.std.proofs.Common.{◌≡◌, refl, ℕ, Bool, true, false, length, ◌++◌, List, [], ◌∷◌, IfOk, ap, sym, subst, map, Some, None, Result, Ok, Err}
+use Rattle.std.proofs.Common.{◌≡◌, refl, ℕ, Bool, true, false, length, ◌++◌, List, [], ◌∷◌, IfOk}
+use Rattle.std.proofs.Common.{ap, sym, subst, map, Some, None, Result, Ok, Err}
 use Rattle.std.specs.Prelude.{◌==◌, if◌then◌else◌}
 use Rattle.ix_rec.specs.declared.place.Rule.TheVariants.{E2}
 use Rattle.ix_rec.specs.declared.place.Place.TheVariants as places
@@ -12,10 +13,17 @@ use Rattle.ix_job_cases.proofs.joins.JoinsWork.outcome.Goals as goal
 
 pub returns-clause-outcome : goal.returns-clause-outcome
 returns-clause-outcome c =
-    let two = ap (map content_seen) (two_items c.args.inputs.now c.at.result.now c.at-2.result.now c.requires c.at.ensures c.at-2.ensures) in
-    subst (λ (xs : List Content). IfOk c.joined_contents.result (λ o. IsJoined xs (outcome_seen o))) (sym two) c.joined_contents.ensures
+    let two = ap (map content_seen) (two_items c.args.inputs.now c.at.result.now c.at-2.result.now
+    c.requires c.at.ensures c.at-2.ensures) in
+    subst (λ (xs : List Content). IfOk c.joined_contents.result (λ o. IsJoined xs (outcome_seen o)))
+    (sym two) c.joined_contents.ensures
 
-by_empty : (empty : Bool) (xs ys : List ℕ) → HasOutputs 2 (if empty then record { report = No E2 places.File; outputs = [] } else record { report = Demo 1 2 3 4; outputs = (xs ++ ys) ∷ (ys ++ xs) ∷ [] })
+by_empty : (empty : Bool) (xs ys : List ℕ)
+    → HasOutputs 2 (if empty then record {
+      report = No E2 places.File;
+      outputs =
+          [];
+    } else record { report = Demo 1 2 3 4; outputs = (xs ++ ys) ∷ (ys ++ xs) ∷ [] })
 by_empty true xs ys = refl
 by_empty false xs ys = refl
 
@@ -24,9 +32,11 @@ joined_outputs (Some xs) (Some ys) = by_empty (length xs == 0) xs ys
 joined_outputs (Some xs) None = refl
 joined_outputs None b = refl
 
-as_joined : {E : Type 0} (r : Result made.Outcome E) (a b : Content) → IfOk r (λ o. outcome_seen o ≡ joined a b) → IfOk r (λ o. HasOutputs 2 (outcome_seen o))
+as_joined : {E : Type 0} (r : Result made.Outcome E) (a b : Content)
+    → IfOk r (λ o. outcome_seen o ≡ joined a b) → IfOk r (λ o. HasOutputs 2 (outcome_seen o))
 as_joined (Ok o) a b e = subst (HasOutputs 2) (sym e) (joined_outputs a b)
 as_joined (Err e) a b h = tt
 
 pub returns-clause-outputs : goal.returns-clause-outputs
-returns-clause-outputs c = as_joined c.joined_contents.result (content_seen c.at.result.now) (content_seen c.at-2.result.now) c.joined_contents.ensures
+returns-clause-outputs c = as_joined c.joined_contents.result (content_seen c.at.result.now)
+    (content_seen c.at-2.result.now) c.joined_contents.ensures

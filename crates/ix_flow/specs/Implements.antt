@@ -1,0 +1,89 @@
+-- What status 0 of `flow` says of the netlist that it wrote. Designs have no nets and no LUT cells
+-- yet: so no rule on segments, on trees or on tables has anything to judge.
+use Rattle.std.specs.Prelude.{◌≡◌, ℕ, List, [], ◌∷◌, length, map, slice_get, true, Option, Some}
+use Rattle.std.specs.Prelude.{None, option_map, slice_index_or, Result, Ok}
+use Rattle.ix_frame.specs.Segments.{Segments}
+use Rattle.ix_strings.specs.Names.{KeepsNumbers}
+use Rattle.ix_message.specs.Shape.{Text}
+use Rattle.ix_message.specs.Message.{reading}
+use Rattle.ix_message.specs.Phys.{phys_netlist}
+use Rattle.ix_rec.specs.declared.device.DeviceRec.{DeviceRec}
+use Rattle.ix_rec.specs.declared.phys.CellPlacement.{CellPlacement}
+use Rattle.ix_rec.specs.declared.phys.Phys.{Phys}
+use Rattle.ix_device.specs.Elements.{differ}
+use Rattle.ix_device.specs.Lookups.{name_of_site}
+use Rattle.ix_shelf.specs.Shelf.{Files, with_file}
+use Rattle.ix_job.specs.Outside.{Outside}
+use Rattle.ix_job.specs.Job.{Content, AreContents}
+use Rattle.ix_phys_write.specs.Record.{phys_record}
+use Rattle.ix_first_form.specs.FirstForm.{is_first_form, cells_in}
+use Rattle.ix_first_fit.specs.declared.cell.Spot.{Spot}
+use Rattle.ix_first_fit.specs.Spots.{admits}
+use Rattle.ix_first_fit.specs.Netlist.{bel_name, used_sites, IsPinMap, AreInstances}
+use Rattle.ix_first_fit.specs.Laws.{Differ}
+use Rattle.ix_flow.specs.Words.{Flow}
+use Rattle.ix_flow.specs.Answer.{opened, NamedDevice, IsValid}
+
+-- Rules L1 and L3 at a placement: its site and its BEL are there, and this is the place that they
+-- name; its pin map is the device's for its cell type there, whole, so that each pin is there too.
+pub record NamesPlace (rec : DeviceRec) (m : CellPlacement) (p : Spot) : Type 0 where
+  pub site : name_of_site rec p.site ≡ Some m.site
+  pub bel : bel_name rec p ≡ Some m.bel
+  pub pins : IsPinMap rec m.ty p m.bel m.pin_map
+
+-- Rules L1 and L3: each placement names a place, which admits its cell type, so that the type is
+-- there too. There are no segments and no keys of tables.
+pub record KeepsNames (rec : DeviceRec) (phys : Phys) (places : List Spot) : Type 0 where
+  pub count : length places ≡ length phys.placements
+  pub named : (k : ℕ) (m : CellPlacement) (p : Spot) → slice_get phys.placements k ≡ Some m
+      → slice_get places k ≡ Some p → NamesPlace rec m p
+  pub nets : phys.nets ≡ []
+  pub properties : phys.properties ≡ []
+
+-- Rule L2: each cell is placed once; each BEL has one cell, and admits it; each site that is used
+-- has one instance, of its own type, and no other site has one.
+pub record KeepsPlaces (rec : DeviceRec) (phys : Phys) (places : List Spot) : Type 0 where
+  pub once : differ (map (λ m. m.cell_name) phys.placements) ≡ true
+  pub one_cell : Differ places
+  pub admitted : (k : ℕ) (m : CellPlacement) (p : Spot) → slice_get phys.placements k ≡ Some m
+      → slice_get places k ≡ Some p → admits rec m.ty p ≡ true
+  pub instances : AreInstances rec places phys.site_insts
+  pub one_instance : Differ (used_sites places)
+
+-- the name and the type of a placed cell, as texts
+abbrev pub placed_texts : List Text → CellPlacement → Text × Text
+placed_texts names m = (slice_index_or names m.cell_name [], slice_index_or names m.ty [])
+
+-- The netlist of a file implements the design of another on the device of a third: it breaks no
+-- rule of the device, and the cells that are extracted from it are the design's (rule E1).
+pub record Implements (device design : Content) (output : List ℕ) : Type 0 where
+  pub device_segments : Segments
+  pub device_opens : opened device ≡ Ok device_segments
+  pub on : NamedDevice
+  pub valid : IsValid device_segments on
+  pub design_segments : Segments
+  pub design_opens : opened design ≡ Ok design_segments
+  pub in_form : is_first_form on.names on.rec design_segments ≡ true
+  pub names : List Text
+  pub keeps : KeepsNumbers on.names names
+  pub phys : Phys
+  pub decodes : reading phys_netlist output ≡ Ok (phys_record names phys)
+  pub places : List Spot
+  pub l1_l3 : KeepsNames on.rec phys places
+  pub l2 : KeepsPlaces on.rec phys places
+  pub e1 : map (placed_texts names) phys.placements ≡ cells_in design_segments
+
+-- The netlist was written, and no other file; it implements the design on the device.
+pub record HasImplemented (flow : Flow) (before after : Outside) : Type 0 where
+  pub device : Content
+  pub design : Content
+  pub output : List ℕ
+  pub read : (files : Files) → before.files ≡ Some files
+      → AreContents files (flow.device ∷ flow.design ∷ []) (device ∷ design ∷ [])
+  pub written : after.files ≡ option_map (with_file flow.routed output) before.files
+  pub implements : Implements device design output
+
+-- words that are refused never end so
+abbrev pub IsImplemented : Option Flow → (before after : Outside) → Type 0
+IsImplemented None before after = ⊥
+IsImplemented (Some flow) before after = HasImplemented flow before after

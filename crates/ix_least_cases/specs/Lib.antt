@@ -1,2 +1,0 @@
--- For private contracts and proofs.
-pub mod Grid

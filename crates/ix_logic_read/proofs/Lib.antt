@@ -1,0 +1,12 @@
+pub mod Costs
+pub mod Counted
+pub mod Entries
+pub mod Holding
+pub mod Lookup
+pub mod Root
+pub mod Rows
+pub mod Steps
+pub mod Telling
+pub mod Texts
+pub mod Walking
+pub mod Whole

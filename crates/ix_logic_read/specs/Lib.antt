@@ -1,0 +1,8 @@
+-- What public contracts say.
+pub mod Record
+-- For private contracts and proofs.
+pub mod Asking
+pub mod Passed
+pub mod Pins
+pub mod Structs
+pub mod Told

@@ -1,0 +1,13 @@
+pub mod Costs
+pub mod Counted
+pub mod Found
+pub mod NetTrees
+pub mod Opened
+pub mod Rows
+pub mod Stacks
+pub mod Steps
+pub mod Texts
+pub mod Told
+pub mod Trees
+pub mod Whole
+pub mod Words

@@ -1,0 +1,7 @@
+-- What public contracts say.
+pub mod Again
+-- For private contracts and proofs.
+pub mod Sound
+pub mod Views
+pub mod Walked
+pub mod Open

@@ -1,0 +1,4 @@
+pub mod OptionWords
+pub mod Keeping
+pub mod Walking
+pub mod Asking

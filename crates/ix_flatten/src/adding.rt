@@ -1,0 +1,16 @@
+//! Names that are added, and how many may be.
+
+use ix_num::{Memory, NameId};
+use ix_strings::Names;
+
+/// How many names flattening adds at most.
+pub(crate) const MOST_NAMES: u32 = 1 << 29;
+
+/// Adds a name. The count of those that may still be added falls; where it is 0, memory is wanting.
+pub(crate) fn add_name(names: &mut Names, left: &mut u32, text: &str) -> Result<NameId, Memory> {
+    if *left == 0 {
+        return Err(Memory);
+    }
+    *left -= 1;
+    names.add(text)
+}

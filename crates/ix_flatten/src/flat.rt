@@ -11,11 +11,11 @@ use crate::fault::DesignFault;
 use crate::inputs::{first_open, open_inputs};
 use crate::instances::Instances;
 use crate::kinds::{Kind, kinds, way_to_unknown};
-use crate::names::{Named, PortNames, first_named_twice, named, net_text, port_text};
+use crate::names::{Named, PortNames, add_names, first_named_twice, net_text, port_text};
 use crate::nets::{first_occurrences, inner_nets};
 use crate::pins::{Joined, Role};
 use crate::ports::{TopBit, top_bits};
-use crate::reach::{Reach, reach};
+use crate::reach::{Reach, reached};
 use crate::rows::{Rows, first_twice, written_names};
 use crate::tables::{lut_of, lut_types, tables};
 use crate::texts::{joined_names, path_text, text_in};
@@ -23,7 +23,8 @@ use ix_device::Device;
 use ix_first::FirstByKey;
 use ix_num::{CellId, Constant, Memory, NameId, NetId, NetRef};
 use ix_rec::{
-    CellMap, CellPin, DeviceRec, Flat, FlatNet, Items, NetlistRec, PinMap, Rule, TruthTable, Word,
+    CellMap, CellPin, DeviceRec, Flat, FlatNet, Items, LutCell, NetlistRec, PinMap, Rule,
+    TruthTable, Word,
 };
 use ix_strings::Names;
 use std::alloc::Global;
@@ -58,7 +59,7 @@ fn reach_all(
     cells: &CellTable,
     names: &Names,
 ) -> Result<Reach, DesignFault> {
-    let reach = reach(alloc, rec, cells)?;
+    let reach = reached(alloc, rec, cells)?;
     let first = match (reach.looped, first_with_two(rec, cells)) {
         (None, other) => other,
         (Some(one), Some(other)) if other < one => Some(other),
@@ -195,12 +196,10 @@ fn lut_at<'a>(
     luts: &FirstByKey<u32>,
     joined: &Joined,
     instance: u32,
-) -> Option<&'a LutOf> {
+) -> Option<&'a LutCell> {
     let declaration = joined.instances.at(instance).declaration;
     lut_of(device, luts, rec.cell_decls.at(declaration as usize).name)
 }
-
-use ix_rec::LutCell as LutOf;
 
 // The first LUT cell among the leaves that has no table.
 fn first_without_table(
@@ -436,7 +435,7 @@ pub fn flatten(
     }
     let states = net_states(alloc, rec, constants, &joined, &bits)?;
     let types = PortNames::new(names, &mut left)?;
-    let named = named(alloc, rec, names, &mut left, types, &joined, &bits, &states)?;
+    let named = add_names(alloc, rec, names, &mut left, types, &joined, &bits, &states)?;
     if let Some(name) = first_named_twice(alloc, &joined, &named, names.len())? {
         return Err(broken(alloc, Rule::N5, names.name(name)));
     }

@@ -154,7 +154,11 @@ impl Instances {
 }
 
 /// The record of an instance.
-pub(crate) fn record_of(rec: &NetlistRec, instances: &Instances, instance: u32) -> &CellInstance {
+pub(crate) fn record_of<'a>(
+    rec: &'a NetlistRec,
+    instances: &Instances,
+    instance: u32,
+) -> &'a CellInstance {
     if instance == 0 {
         &rec.top_inst
     } else {

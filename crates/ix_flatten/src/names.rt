@@ -141,7 +141,7 @@ fn signals_of(
 }
 
 /// The cells and the signal nets of a design, whose names are added.
-pub(crate) fn named(
+pub(crate) fn add_names(
     alloc: Global,
     rec: &NetlistRec,
     names: &mut Names,

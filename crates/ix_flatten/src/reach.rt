@@ -171,7 +171,7 @@ impl Search {
 }
 
 /// The declarations that the top reaches.
-pub(crate) fn reach(alloc: Global, rec: &NetlistRec, cells: &CellTable) -> Result<Reach, Memory> {
+pub(crate) fn reached(alloc: Global, rec: &NetlistRec, cells: &CellTable) -> Result<Reach, Memory> {
     let mut search = Search::new(alloc, rec)?;
     search.enter(cells, rec.top_inst.cell)?;
     while let Some(visit) = search.visits.pop() {

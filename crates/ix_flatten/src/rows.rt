@@ -28,12 +28,17 @@ fn row_number(row: Row) -> u128 {
         | u128::from(row.net)
 }
 
+// The lowest 32 bits.
+fn low(number: u128) -> u32 {
+    (number & 0xffff_ffff) as u32
+}
+
 fn row_of(number: u128) -> Row {
     Row {
-        instance: (number >> 96) as u32,
-        port: (number >> 64) as u32,
-        index: (number >> 32) as u32,
-        net: number as u32,
+        instance: low(number >> 96),
+        port: low(number >> 64),
+        index: low(number >> 32),
+        net: low(number),
     }
 }
 
@@ -224,7 +229,7 @@ fn first_written_twice(
     let mut found = None;
     for i in 1..numbers.len() {
         if numbers[i] >> 32 == numbers[i - 1] >> 32 {
-            found = lesser(found, numbers[i] as u32);
+            found = lesser(found, low(numbers[i]));
         }
     }
     Ok(found)

@@ -113,22 +113,22 @@ IsMet cell net place named = (m i : ℕ) (other : PortInstance)
 -- A bit of an instance is first met here, and another bit of the instance with the same written
 -- name was met before.
 pub record IsWrittenTwice (names : List Text) (design : NetlistRec) (cell : Cell) (net : ℕ) : Type 0
-    where
-  pub place : ℕ
-  pub named : PortInstance
-  pub here : Names cell net place named
-  pub of_instance : IsInstanceOf named.owner
-  pub met : IsMet cell net place named
-  pub earlier : ℕ
-  pub other_place : ℕ
-  pub other : PortInstance
-  pub there : Names cell earlier other_place other
-  pub before : (earlier < net) ⊎ ((earlier ≡ net) × (other_place < place))
-  pub owner : same_owner other.owner named.owner
-  pub apart : ¬ (same_bit (bit_of other) (bit_of named) ≡ true)
-  pub text : Text
-  pub text_is : written_bit names design (bit_of named) ≡ Some text
-  pub other_text_is : written_bit names design (bit_of other) ≡ Some text
+  where
+    pub place : ℕ
+    pub named : PortInstance
+    pub here : Names cell net place named
+    pub of_instance : IsInstanceOf named.owner
+    pub met : IsMet cell net place named
+    pub earlier : ℕ
+    pub other_place : ℕ
+    pub other : PortInstance
+    pub there : Names cell earlier other_place other
+    pub before : (earlier < net) ⊎ ((earlier ≡ net) × (other_place < place))
+    pub owner : same_owner other.owner named.owner
+    pub apart : ¬ (same_bit (bit_of other) (bit_of named) ≡ true)
+    pub text : Text
+    pub text_is : written_bit names design (bit_of named) ≡ Some text
+    pub other_text_is : written_bit names design (bit_of other) ≡ Some text
 
 abbrev pub BreaksN2 : List Text → NetlistRec → Spot → Type 0
 BreaksN2 names design (NetAt path net) = (cell : Cell) × (inside_at design path ≡ Some cell)

@@ -67,13 +67,13 @@ pub record LeafCell : Type 0 where
 
 -- the leaves that are cells, in preorder, each once and all of them
 pub record AreLeafCells (rec : DeviceRec) (design : NetlistRec) (leaves : List LeafCell) : Type 0
-    where
-  pub each : (k : ℕ) (leaf : LeafCell) → slice_get leaves k ≡ Some leaf
-      → IsPlainLeaf rec design leaf.path leaf.inst leaf.ty
-  pub rise : (j k : ℕ) (a b : LeafCell) → j < k → slice_get leaves j ≡ Some a
-      → slice_get leaves k ≡ Some b → IsBefore (InstanceAt a.path) (InstanceAt b.path)
-  pub all : (path : Path) (inst : CellInstance) (ty : ℕ) → IsPlainLeaf rec design path inst ty
-      → (k : ℕ) × (slice_get leaves k ≡ Some record { path = path; inst = inst; ty = ty })
+  where
+    pub each : (k : ℕ) (leaf : LeafCell) → slice_get leaves k ≡ Some leaf
+        → IsPlainLeaf rec design leaf.path leaf.inst leaf.ty
+    pub rise : (j k : ℕ) (a b : LeafCell) → j < k → slice_get leaves j ≡ Some a
+        → slice_get leaves k ≡ Some b → IsBefore (InstanceAt a.path) (InstanceAt b.path)
+    pub all : (path : Path) (inst : CellInstance) (ty : ℕ) → IsPlainLeaf rec design path inst ty
+        → (k : ℕ) × (slice_get leaves k ≡ Some record { path = path; inst = inst; ty = ty })
 
 abbrev pub leaf_texts : List Text → NetlistRec → LeafCell → Text × Text
 leaf_texts names design leaf = (flat_name names design leaf.path [], slice_index_or names leaf.ty [])
@@ -189,7 +189,7 @@ abbrev pub table_of : List Text → LutCell → CellInstance → Option TruthTab
 table_of names lut inst = option_map
     (λ bits. record { bits = bits; inputs = length lut.input_pins })
     (option_and_then (init_number names (length lut.input_pins))
-        (init_value inst.prop_map.entries lut.init_param))
+    (init_value inst.prop_map.entries lut.init_param))
 
 abbrev pub table_of_leaf : DeviceRec → List Text → LeafCell → Option TruthTable
 table_of_leaf rec names leaf =

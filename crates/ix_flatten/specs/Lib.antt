@@ -5,3 +5,5 @@ pub mod Nets
 pub mod Pins
 pub mod FlatDesign
 pub mod Broken
+pub mod Fits
+pub mod Faults

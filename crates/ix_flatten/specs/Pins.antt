@@ -43,9 +43,9 @@ pub data Pin : Type 0 where
 
 -- a leaf and its type
 pub record IsLeafOf (design : NetlistRec) (path : Path) (inst : CellInstance) (ty : ℕ) : Type 0
-    where
-  pub leaf : IsLeaf design path inst
-  pub type_is : type_of design inst ≡ Some ty
+  where
+    pub leaf : IsLeaf design path inst
+    pub type_is : type_of design inst ≡ Some ty
 
 -- a leaf that is a cell of the flat design, as its type isn't of constant cells
 pub record IsPlainLeaf (rec : DeviceRec) (design : NetlistRec) (path : Path) (inst : CellInstance)

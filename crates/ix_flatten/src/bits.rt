@@ -1,5 +1,8 @@
 //! The written names of port bits.
 
+ghost use Rattle.std.specs.Prelude.{◌≡◌};
+ghost use Rattle.ix_flatten.specs.Nets.{index_of as index_seen};
+
 use crate::adding::add_name;
 use crate::cells::CellTable;
 use ix_num::{Memory, NameId};
@@ -8,7 +11,9 @@ use ix_strings::Names;
 use std::alloc::Global;
 
 /// The index of the bit that a net names.
-pub(crate) fn index_of(named: &PortInstance) -> u32 {
+pub(crate) fn index_of(named: &PortInstance) -> u32
+    ensures { result ≡ index_seen named.now.bus named.now.idx }
+{
     match named.bus {
         PortIndexing::SingleBit => 0,
         PortIndexing::Idx => named.idx,

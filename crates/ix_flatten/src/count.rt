@@ -1,7 +1,10 @@
 //! How many places of a design are counted, before any is listed.
 
-use crate::kinds::Kind;
+ghost use Rattle.std.specs.Prelude.{◌≡◌, ◌+◌, ◌^◌, ◌≤◌, min};
+ghost use Rattle.ix_flatten.specs.Hierarchy.{width as width_seen};
+
 use crate::cells::declaration_at;
+use crate::kinds::Kind;
 use ix_num::Memory;
 use ix_rec::{NetlistRec, Port, PortKind};
 use std::alloc::Global;
@@ -10,7 +13,11 @@ use std::alloc::Global;
 pub(crate) const MOST_PLACES: u64 = 1 << 22;
 
 // A sum, where it doesn't pass the most places; else one more than these.
-fn limited_sum(a: u64, b: u64) -> u64 {
+fn limited_sum(a: u64, b: u64) -> u64
+    requires a { a ≤ 2 ^ 63 }
+    requires b { b ≤ 2 ^ 62 }
+    ensures { result ≡ min (a + b) (2 ^ 22 + 1) }
+{
     let sum = a + b;
     if sum > MOST_PLACES {
         MOST_PLACES + 1
@@ -20,7 +27,10 @@ fn limited_sum(a: u64, b: u64) -> u64 {
 }
 
 /// How many bits a port has.
-pub(crate) fn width(port: &Port) -> u64 {
+pub(crate) fn width(port: &Port) -> u64
+    ensures width { result ≡ width_seen port.now }
+    ensures most { result ≤ 2 ^ 32 }
+{
     match port.kind {
         PortKind::Bit => 1,
         PortKind::Bus => u64::from(port.bus_start.abs_diff(port.bus_end)) + 1,
@@ -43,7 +53,10 @@ fn top_bits(rec: &NetlistRec) -> u64 {
     let top = rec.cell_decls.at(rec.top_inst.cell as usize);
     let mut count = 0;
     for place in 0..top.ports.len() {
-        count = limited_sum(count, width(rec.port_list.at(*top.ports.at(place) as usize)));
+        count = limited_sum(
+            count,
+            width(rec.port_list.at(*top.ports.at(place) as usize)),
+        );
     }
     count
 }

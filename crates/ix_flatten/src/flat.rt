@@ -1,5 +1,13 @@
 //! Flattening.
 
+ghost use Rattle.std.specs.Prelude.{◌+◌, ◌-◌, ◌^◌, ◌<◌, ◌≤◌, length, IfErr, IfOk};
+ghost use Rattle.ix_strings.specs.Names.{KeepsNumbers};
+ghost use Rattle.ix_flat.specs.Range.{IsInRange, IsNamed};
+ghost use Rattle.ix_flat.specs.Whole.{IsWhole};
+ghost use Rattle.ix_flatten.specs.Broken.{IsFlattened};
+ghost use Rattle.ix_flatten.specs.Faults.{IsDesignFault};
+ghost use Rattle.ix_flatten.specs.Fits.{AreInputsNamed, NetlistFits};
+
 use crate::adding::MOST_NAMES;
 use crate::bits::BitNames;
 use crate::cells::{CellTable, first_with_two};
@@ -149,7 +157,9 @@ fn join(
     let own = Rows::new(alloc, rec, &cells, &reach.met, true)?;
     let outer = Rows::new(alloc, rec, &cells, &reach.met, false)?;
     let written = written_names(alloc, rec, &outer, &bits)?;
-    ask_n2(alloc, rec, names, &cells, &reach.met, &own, &outer, &written)?;
+    ask_n2(
+        alloc, rec, names, &cells, &reach.met, &own, &outer, &written,
+    )?;
     let kinds = kinds(alloc, rec, &cells, device)?;
     ask_types_and_count(alloc, rec, names, &kinds, &reach.closed)?;
     Ok(join_all(alloc, rec, kinds, own, outer, written)?)
@@ -174,7 +184,7 @@ fn ask_drivers(
 
 // The first port cell whose type is a LUT type.
 fn first_lut_port<'a>(
-    types: PortNames,
+    types: &PortNames,
     luts: &FirstByKey<u32>,
     device: &DeviceRec,
     bits: &'a [TopBit],
@@ -227,7 +237,7 @@ fn ask_tables(
     rec: &NetlistRec,
     device: &DeviceRec,
     names: &Names,
-    types: PortNames,
+    types: &PortNames,
     luts: &FirstByKey<u32>,
     joined: &Joined,
     bits: &[TopBit],
@@ -292,21 +302,46 @@ struct Wiring {
 }
 
 impl Wiring {
+    // Notes the driver of a net.
+    fn drive(&mut self, net: NetId, pin: CellPin, role: Role) {
+        if let Role::Driver = role {
+            self.nets[net.get() as usize].driver = Some(pin);
+        }
+    }
+
     // Puts a pin of a cell on its net.
     fn put(&mut self, cell: u32, pin: NameId, net: NetRef, role: Role) -> Result<(), Memory> {
         let cell = CellId::new(cell);
-        self.pins.insert(cell, pin, net)?;
-        if let (NetRef::Signal(net), Role::Driver) = (net, role) {
-            self.nets[net.get() as usize].driver = Some(CellPin { cell, pin });
+        if let NetRef::Signal(signal) = &net {
+            self.drive(*signal, CellPin { cell, pin }, role);
         }
+        self.pins.insert(cell, pin, net)?;
         Ok(())
+    }
+}
+
+// The pin of a port cell.
+fn put_port_pin(
+    wiring: &mut Wiring,
+    types: &PortNames,
+    bit: &TopBit,
+    states: &[NetState],
+    numbers: &[u32],
+    cell: u32,
+) -> Result<(), Memory> {
+    let Some(net) = bit.net else {
+        return Ok(());
+    };
+    match net_ref(states, numbers, net) {
+        Some(net) => wiring.put(cell, types.pin, net, role_of_bit(bit.dir)),
+        None => Ok(()),
     }
 }
 
 // The pins of port cells.
 fn put_port_pins(
     wiring: &mut Wiring,
-    types: PortNames,
+    types: &PortNames,
     bits: &[TopBit],
     states: &[NetState],
     numbers: &[u32],
@@ -314,11 +349,7 @@ fn put_port_pins(
     let mut cell = 0;
     for bit in bits {
         if types.of(bit.dir).is_some() {
-            if let Some(net) = bit.net {
-                if let Some(net) = net_ref(states, numbers, net) {
-                    wiring.put(cell, types.pin, net, role_of_bit(bit.dir))?;
-                }
-            }
+            put_port_pin(wiring, types, bit, states, numbers, cell)?;
             cell += 1;
         }
     }
@@ -391,7 +422,7 @@ fn wire(
     alloc: Global,
     rec: &NetlistRec,
     device: &DeviceRec,
-    types: PortNames,
+    types: &PortNames,
     joined: &Joined,
     bits: &[TopBit],
     states: &[NetState],
@@ -406,7 +437,14 @@ fn wire(
     for k in 0..named.leaves.len() {
         let cell = named.ports + k as u32;
         put_leaf_pins(
-            &mut wiring, rec, device, joined, states, &numbers, cell, named.leaves[k],
+            &mut wiring,
+            rec,
+            device,
+            joined,
+            states,
+            &numbers,
+            cell,
+            named.leaves[k],
         )?;
     }
     Ok(wiring)
@@ -425,7 +463,21 @@ pub fn flatten(
     rec: &NetlistRec,
     device: &Device,
     names: &mut Names,
-) -> Result<Flat, DesignFault> {
+) -> Result<Flat, DesignFault>
+    requires fits { NetlistFits (length names.old) rec.now }
+    requires inputs { AreInputsNamed (length names.old) device.now }
+    requires few { length names.old + 2 ^ 29 < 2 ^ 32 - 1 }
+
+    ensures flat { IfOk result (IsFlattened names.new device.now rec.now) }
+    ensures range { IfOk result (IsInRange device.now) }
+    ensures named { IfOk result (IsNamed (length names.new)) }
+    ensures whole { IfOk result (IsWhole names.new device.now) }
+    ensures most_cells { IfOk result (λ flat. length flat.cells ≤ 2 ^ 22) }
+    ensures fault { IfErr result (IsDesignFault names.new device.now rec.now) }
+
+    ensures keeps { KeepsNumbers names.old names.new }
+    ensures most_names { length names.new ≤ length names.old + 2 ^ 29 }
+{
     let mut left = MOST_NAMES;
     let (joined, bits) = join(alloc, rec, device, names, &mut left)?;
     let device = device.rec();
@@ -435,7 +487,9 @@ pub fn flatten(
     }
     let states = net_states(alloc, rec, constants, &joined, &bits)?;
     let types = PortNames::new(names, &mut left)?;
-    let named = add_names(alloc, rec, names, &mut left, types, &joined, &bits, &states)?;
+    let named = add_names(
+        alloc, rec, names, &mut left, &types, &joined, &bits, &states,
+    )?;
     if let Some(name) = first_named_twice(alloc, &joined, &named, names.len())? {
         return Err(broken(alloc, Rule::N5, names.name(name)));
     }
@@ -443,15 +497,34 @@ pub fn flatten(
     let luts = lut_types(alloc, device)?;
     let tables = tables(alloc, rec, device, &joined.kinds, &luts, names)?;
     ask_tables(
-        alloc, rec, device, names, types, &luts, &joined, &bits, &named.leaves, &tables,
+        alloc,
+        rec,
+        device,
+        names,
+        &types,
+        &luts,
+        &joined,
+        &bits,
+        &named.leaves,
+        &tables,
     )?;
-    ask_inputs(alloc, rec, device, names, &luts, &joined, &states, &named.leaves)?;
-    let wiring = wire(alloc, rec, device, types, &joined, &bits, &states, &named)?;
+    ask_inputs(
+        alloc,
+        rec,
+        device,
+        names,
+        &luts,
+        &joined,
+        &states,
+        &named.leaves,
+    )?;
+    let wiring = wire(alloc, rec, device, &types, &joined, &bits, &states, &named)?;
     let tables = cell_tables(alloc, &joined, named.ports, &named.leaves, &tables)?;
+    let Named { cells, ports, .. } = named;
     let Wiring { pins, nets } = wiring;
     Ok(Flat {
-        cells: Items::from_vec(named.cells),
-        ports: named.ports,
+        cells: Items::from_vec(cells),
+        ports,
         nets: Items::from_vec(nets),
         pins,
         tables,

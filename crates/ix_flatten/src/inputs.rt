@@ -61,7 +61,9 @@ fn decimal_of(digits: &[u8]) -> Option<u32> {
         if !digit.is_ascii_digit() {
             return None;
         }
-        number = number.checked_mul(10)?.checked_add(u32::from(*digit - b'0'))?;
+        number = number
+            .checked_mul(10)?
+            .checked_add(u32::from(*digit - b'0'))?;
     }
     Some(number)
 }
@@ -78,15 +80,9 @@ fn bus_bit(names: &Names, text: &str) -> Option<BusBit> {
 }
 
 // The index of a port's bit that is written so.
-fn index_in(port: &Port, name: NameId, bit: Option<BusBit>) -> Option<u32> {
+fn index_in(port: &Port, name: NameId, bit: Option<&BusBit>) -> Option<u32> {
     match port.kind {
-        PortKind::Bit => {
-            if port.name == name {
-                Some(0)
-            } else {
-                None
-            }
-        }
+        PortKind::Bit => { if port.name == name { Some(0) } else { None } }
         PortKind::Bus => match bit {
             Some(bit) if bit.name == port.name && u64::from(bit.index) < width(port) => {
                 Some(bit.index)
@@ -106,7 +102,7 @@ fn place_of(
     let bit = bus_bit(names, names.name(name));
     for place in 0..declaration.ports.len() {
         let port = rec.port_list.at(*declaration.ports.at(place) as usize);
-        if let Some(index) = index_in(port, name, bit) {
+        if let Some(index) = index_in(port, name, bit.as_ref()) {
             return Some((place, index));
         }
     }

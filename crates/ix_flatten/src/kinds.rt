@@ -1,5 +1,8 @@
 //! What an instance of a declaration is.
 
+ghost use Rattle.std.specs.Prelude.{◌≡◌};
+ghost use Rattle.ix_flatten.specs.Pins.{constant_among};
+
 use crate::cells::{CellTable, declaration_at};
 use ix_device::Device;
 use ix_first::FirstByKey;
@@ -22,7 +25,9 @@ pub(crate) enum Kind {
 }
 
 /// The constant of a type of constant cells; a type that is both is gnd's.
-pub(crate) fn constant_of(constants: &Option<Constants>, ty: NameId) -> Option<Constant> {
+pub(crate) fn constant_of(constants: &Option<Constants>, ty: NameId) -> Option<Constant>
+    ensures { result ≡ constant_among constants.now ty }
+{
     let constants = constants.as_ref()?;
     if constants.gnd_cell_type == ty {
         Some(Constant::Gnd)

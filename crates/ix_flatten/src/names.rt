@@ -65,7 +65,12 @@ pub(crate) fn port_text(
     bit: &TopBit,
 ) -> Result<String, Memory> {
     let mut text = String::from_str(alloc, "$port/")?;
-    put_bit(&mut text, names, rec.port_list.at(bit.port as usize), bit.index)?;
+    put_bit(
+        &mut text,
+        names,
+        rec.port_list.at(bit.port as usize),
+        bit.index,
+    )?;
     Ok(text)
 }
 
@@ -88,7 +93,7 @@ fn put_port_cells(
     rec: &NetlistRec,
     names: &mut Names,
     left: &mut u32,
-    types: PortNames,
+    types: &PortNames,
     bits: &[TopBit],
     cells: &mut Vec<FlatCell>,
 ) -> Result<(), Memory> {
@@ -126,11 +131,7 @@ fn put_leaves(
 }
 
 // The first occurrences of the signal nets.
-fn signals_of(
-    alloc: Global,
-    firsts: &[u32],
-    states: &[NetState],
-) -> Result<Vec<u32>, Memory> {
+fn signals_of(alloc: Global, firsts: &[u32], states: &[NetState]) -> Result<Vec<u32>, Memory> {
     let mut signals = Vec::new(alloc);
     for net in 0..firsts.len() {
         if firsts[net] as usize == net && states[net].is_signal() {
@@ -146,7 +147,7 @@ pub(crate) fn add_names(
     rec: &NetlistRec,
     names: &mut Names,
     left: &mut u32,
-    types: PortNames,
+    types: &PortNames,
     joined: &Joined,
     bits: &[TopBit],
     states: &[NetState],

@@ -2,6 +2,7 @@
 
 use crate::bits::{BitNames, index_of};
 use crate::cells::CellTable;
+use ix_first::number_of;
 use ix_num::{Memory, NameId};
 use ix_rec::{NetlistRec, PortOwner};
 use std::alloc::Global;
@@ -68,7 +69,7 @@ fn rows_in(alloc: Global, rec: &NetlistRec, cell: u32, own: bool) -> Result<Vec<
                     instance,
                     port: named.port,
                     index: index_of(named),
-                    net: n as u32,
+                    net: number_of(n)?,
                 }))?;
             }
         }

@@ -27,9 +27,7 @@ fn differ(names: &Items<NameId>) -> bool {
 // Whether a LUT cell makes its name a LUT type.
 fn counts_as_lut(cell: &LutCell) -> bool {
     let inputs = cell.input_pins.len();
-    cell.equation == LutEquation::InitParam
-        && (1..=6).contains(&inputs)
-        && differ(&cell.input_pins)
+    cell.equation == LutEquation::InitParam && (1..=6).contains(&inputs) && differ(&cell.input_pins)
 }
 
 /// The LUT types of a device: the place of the first LUT cell of each name that counts as one.
@@ -128,10 +126,12 @@ pub(crate) fn tables(
     for i in 0..rec.inst_list.len() {
         let instance = rec.inst_list.at(i);
         let ty = rec.cell_decls.at(instance.cell as usize).name;
-        tables.push(match (kinds[instance.cell as usize], lut_of(device, types, ty)) {
-            (Kind::Plain, Some(lut)) => table_of(&mut read, names, lut, instance)?,
-            _ => None,
-        })?;
+        tables.push(
+            match (kinds[instance.cell as usize], lut_of(device, types, ty)) {
+                (Kind::Plain, Some(lut)) => table_of(&mut read, names, lut, instance)?,
+                _ => None,
+            },
+        )?;
     }
     Ok(tables)
 }

@@ -24,7 +24,12 @@ pub(crate) fn joined_names(
 ) -> Result<Word, Memory> {
     let mut text = String::new(alloc);
     for i in 0..way.len() {
-        put_name(&mut text, names, i == 0, rec.inst_list.at(way[i] as usize).name)?;
+        put_name(
+            &mut text,
+            names,
+            i == 0,
+            rec.inst_list.at(way[i] as usize).name,
+        )?;
     }
     Word::new(alloc, text.as_str())
 }

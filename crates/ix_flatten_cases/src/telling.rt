@@ -93,7 +93,12 @@ fn is_before(one: &[u8], other: &[u8]) -> bool {
 fn put_sorted(names: &Names, pins: &mut Vec<NameId>, pin: NameId) -> Result<(), Memory> {
     pins.push(pin)?;
     let mut i = pins.len() - 1;
-    while i > 0 && is_before(names.name(pin).as_bytes(), names.name(pins[i - 1]).as_bytes()) {
+    while i > 0
+        && is_before(
+            names.name(pin).as_bytes(),
+            names.name(pins[i - 1]).as_bytes(),
+        )
+    {
         pins[i] = pins[i - 1];
         pins[i - 1] = pin;
         i -= 1;
@@ -102,12 +107,7 @@ fn put_sorted(names: &Names, pins: &mut Vec<NameId>, pin: NameId) -> Result<(), 
 }
 
 // The pins of a cell.
-fn pins_of(
-    alloc: Global,
-    names: &Names,
-    flat: &Flat,
-    cell: CellId,
-) -> Result<Vec<NameId>, Memory> {
+fn pins_of(alloc: Global, names: &Names, flat: &Flat, cell: CellId) -> Result<Vec<NameId>, Memory> {
     let mut pins = Vec::new(alloc);
     for ((other, pin), _) in flat.pins.from_cell(cell) {
         if *other != cell {

@@ -90,19 +90,19 @@ impl Search {
         Ok(())
     }
 
-    // Makes one part of all behind a place of the open list.
-    fn merge(&mut self, place: u32) {
-        while let Some(part) = self.parts.pop() {
-            if part <= place {
-                self.put_back(part);
-                return;
-            }
-        }
+    // Where the last part begins.
+    fn last_part(&self) -> Option<u32> {
+        self.parts.as_slice().last().copied()
     }
 
-    fn put_back(&mut self, part: u32) {
-        // There is room, as one was just taken.
-        let _ = self.parts.push(part);
+    // Makes one part of all from the one on in which a place of the open list is.
+    fn merge(&mut self, place: u32) {
+        while let Some(part) = self.last_part() {
+            if part <= place {
+                return;
+            }
+            self.parts.pop();
+        }
     }
 
     // Goes from an open declaration to one that it contains.
@@ -136,15 +136,14 @@ impl Search {
     // Leaves a declaration whose cells have been looked through. Where it is the first of the last
     // part, that part is closed.
     fn leave(&mut self, declaration: u32) -> Result<(), Memory> {
-        if let Mark::Open(place) = self.marks[declaration as usize] {
-            if let Some(part) = self.parts.pop() {
-                if part == place {
-                    return self.close_part(place);
-                }
-                self.parts.push(part)?;
-            }
+        let Mark::Open(place) = self.marks[declaration as usize] else {
+            return Ok(());
+        };
+        if self.last_part() != Some(place) {
+            return Ok(());
         }
-        Ok(())
+        self.parts.pop();
+        self.close_part(place)
     }
 
     // One step from the declaration that was opened last.

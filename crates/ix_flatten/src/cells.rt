@@ -17,6 +17,8 @@ pub(crate) struct CellTable {
 impl CellTable {
     /// The table of a netlist.
     pub(crate) fn new(alloc: Global, rec: &NetlistRec) -> Result<CellTable, Memory> {
+        // Numbers of declarations and of cells have 32 bits from here on.
+        number_of(rec.cell_decls.len())?;
         let count = number_of(rec.cell_list.len())?;
         let mut first = Vec::new(alloc);
         first.resize(rec.cell_decls.len(), None)?;

@@ -207,7 +207,8 @@ BreaksN3 names rec design (NetAt path net) =
 BreaksN3 names rec design spot = ⊥
 
 abbrev pub HasNoDriver : List Text → DeviceRec → NetlistRec → Occurrence → Type 0
-HasNoDriver names rec design at = (pin : Pin) → IsDriver names rec design pin → IsOnNet design pin at → ⊥
+HasNoDriver names rec design at =
+    (pin : Pin) → IsDriver names rec design pin → IsOnNet design pin at → ⊥
 
 abbrev pub BreaksN4 : List Text → DeviceRec → NetlistRec → Spot → Type 0
 BreaksN4 names rec design (NetAt path net) =

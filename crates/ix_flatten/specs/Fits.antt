@@ -67,4 +67,5 @@ pub record NetlistFits (names : ℕ) (design : NetlistRec) : Type 0 where
 -- the names of a device's LUT inputs are among so many
 abbrev pub AreInputsNamed : (names : ℕ) → DeviceRec → Type 0
 AreInputsNamed names rec = AllByRecursion
-    (λ (lut : LutCell). AllByRecursion (λ pin. pin < names) lut.input_pins) rec.lut_definitions.lut_cells
+    (λ (lut : LutCell). AllByRecursion (λ pin. pin < names) lut.input_pins)
+    rec.lut_definitions.lut_cells

@@ -76,7 +76,8 @@ pub record AreLeafCells (rec : DeviceRec) (design : NetlistRec) (leaves : List L
         → (k : ℕ) × (slice_get leaves k ≡ Some record { path = path; inst = inst; ty = ty })
 
 abbrev pub leaf_texts : List Text → NetlistRec → LeafCell → Text × Text
-leaf_texts names design leaf = (flat_name names design leaf.path [], slice_index_or names leaf.ty [])
+leaf_texts names design leaf =
+    (flat_name names design leaf.path [], slice_index_or names leaf.ty [])
 
 -- of a flat cell, where both are numbers of names
 abbrev pub cell_texts : List Text → FlatCell → Option (Text × Text)
@@ -94,7 +95,8 @@ pub record IsSignal (names : List Text) (rec : DeviceRec) (design : NetlistRec) 
 
 pub record AreSignals (names : List Text) (rec : DeviceRec) (design : NetlistRec)
     (signals : List Occurrence) : Type 0 where
-  pub each : (n : ℕ) (at : Occurrence) → slice_get signals n ≡ Some at → IsSignal names rec design at
+  pub each : (n : ℕ) (at : Occurrence) → slice_get signals n ≡ Some at
+      → IsSignal names rec design at
   pub rise : (m n : ℕ) (a b : Occurrence) → m < n → slice_get signals m ≡ Some a
       → slice_get signals n ≡ Some b → IsBefore (spot_of a) (spot_of b)
   pub all : (at : Occurrence) → IsSignal names rec design at

@@ -30,7 +30,8 @@ abbrev pub inside : NetlistRec → DeclarationNumber → Option Cell
 inside design declaration = find (λ cell. nat_eq cell.index declaration) design.cell_list
 
 abbrev pub child_of : NetlistRec → Cell → (place : ℕ) → Option CellInstance
-child_of design cell place = option_and_then (slice_get design.inst_list) (slice_get cell.insts place)
+child_of design cell place =
+    option_and_then (slice_get design.inst_list) (slice_get cell.insts place)
 
 -- the instance at a place inside an instance
 abbrev pub child : NetlistRec → CellInstance → (place : ℕ) → Option CellInstance

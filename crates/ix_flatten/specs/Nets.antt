@@ -37,7 +37,8 @@ is_of instance (Inst other) = nat_eq other instance
 
 -- a net of a cell names a bit of the cell itself, or of an instance in it
 abbrev pub names_own : Net → PortBit → Bool
-names_own net bit = list_any (λ named. is_own named.owner && same_bit (bit_of named) bit) net.port_insts
+names_own net bit =
+    list_any (λ named. is_own named.owner && same_bit (bit_of named) bit) net.port_insts
 
 abbrev pub names_of : (instance : ℕ) → Net → PortBit → Bool
 names_of instance net bit =

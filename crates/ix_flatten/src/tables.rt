@@ -53,10 +53,10 @@ pub(crate) fn lut_of<'a>(
 }
 
 // The first value of a key.
-fn property(properties: &PropertyMap, key: NameId) -> Option<PropertyValue> {
+fn property(properties: &PropertyMap, key: NameId) -> Option<&PropertyValue> {
     for i in 0..properties.entries.len() {
         if properties.entries.at(i).key == key {
-            return Some(properties.entries.at(i).value);
+            return Some(&properties.entries.at(i).value);
         }
     }
     None
@@ -86,15 +86,15 @@ fn text_bits(
 fn value_bits(
     read: &mut ReadBits,
     names: &Names,
-    value: Option<PropertyValue>,
+    value: &PropertyValue,
     inputs: u32,
 ) -> Result<Option<u64>, Memory> {
     match value {
-        Some(PropertyValue::Text(text)) => text_bits(read, names, text, inputs),
-        Some(PropertyValue::Int(number)) => {
-            Ok(read_init(InitValue::Int(number), inputs).map(|table| table.bits))
+        PropertyValue::Text(text) => text_bits(read, names, *text, inputs),
+        PropertyValue::Int(number) => {
+            Ok(read_init(InitValue::Int(*number), inputs).map(|table| table.bits))
         }
-        Some(PropertyValue::Bool(_)) | None => Ok(None),
+        PropertyValue::Bool(_) => Ok(None),
     }
 }
 
@@ -106,7 +106,9 @@ fn table_of(
     instance: &CellInstance,
 ) -> Result<Option<TruthTable>, Memory> {
     let inputs = lut.input_pins.len() as u32;
-    let value = property(&instance.prop_map, lut.init_param);
+    let Some(value) = property(&instance.prop_map, lut.init_param) else {
+        return Ok(None);
+    };
     let bits = value_bits(read, names, value, inputs)?;
     Ok(bits.map(|bits| TruthTable { bits, inputs }))
 }

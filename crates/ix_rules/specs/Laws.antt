@@ -1,0 +1,77 @@
+-- What follows from the rules.
+use Rattle.std.specs.Prelude.{◌≡◌, ◌<◌, List, [], ◌∷◌, length, slice_get, Option, Some}
+use Rattle.ix_message.specs.Shape.{Text}
+use Rattle.ix_num.specs.declared.resource.NetRef.{NetRef}
+use Rattle.ix_num.specs.declared.resource.Res.{Res}
+use Rattle.ix_rec.specs.declared.device.DeviceRec.{DeviceRec}
+use Rattle.ix_rec.specs.declared.phys.Phys.{Phys}
+use Rattle.ix_rec.specs.declared.phys.PhysNet.{PhysNet}
+use Rattle.ix_rec.specs.declared.phys.NetType.{NetType}
+use Rattle.ix_rec.specs.declared.phys.NetType.TheVariants.{Signal}
+use Rattle.ix_rec.specs.declared.place.Place.{Place}
+use Rattle.ix_rec.specs.declared.place.Rule.{Rule}
+use Rattle.ix_rules.specs.declared.level.Level.{Level}
+use Rattle.ix_rules.specs.declared.level.Level.TheVariants.{Routed}
+use Rattle.ix_rules.specs.Segments.{NetNumber, SegmentNumber, segments, HasPreorder, IsRoot}
+use Rattle.ix_rules.specs.Segments.{IsParent, in_end, out_end, Enters}
+use Rattle.ix_rules.specs.Holders.{Holds}
+use Rattle.ix_rules.specs.Sharing.{Counts}
+use Rattle.ix_rules.specs.Legal.{Legal, IsFirstBroken, IsAnswer}
+
+-- In a legal routed netlist each net is a tree, or for a constant one tree from each root.
+
+-- the one goes on as the other, by equal ends
+pub record GoesOn (rec : DeviceRec) (net : PhysNet) (parent child : SegmentNumber) : Type 0 where
+  pub is_parent : IsParent net parent child
+  pub end : Res
+  pub leaves : out_end rec net parent ≡ Some end
+  pub enters : in_end rec net child ≡ Some end
+
+-- each goes on as the next
+abbrev pub IsWay : DeviceRec → PhysNet → (from : SegmentNumber) → List SegmentNumber
+    → (to : SegmentNumber) → Type 0
+IsWay rec net from [] to = from ≡ to
+IsWay rec net from (next ∷ way) to = GoesOn rec net from next × IsWay rec net next way to
+
+-- a segment hangs from a root
+pub record Hangs (rec : DeviceRec) (net : PhysNet) (k : SegmentNumber) : Type 0 where
+  pub root : SegmentNumber
+  pub is_root : IsRoot net root
+  pub way : List SegmentNumber
+  pub leads : IsWay rec net root way k
+
+-- a signal net has one root, its first segment
+abbrev pub HasOneRoot : NetType → PhysNet → Type 0
+HasOneRoot Signal net = (k : SegmentNumber) → (IsRoot net k → k ≡ 0) × (k ≡ 0 → IsRoot net k)
+HasOneRoot constant net = Unit {0}
+
+pub record AreTrees (rec : DeviceRec) (net : PhysNet) : Type 0 where
+  pub from_sources : net.stubs ≡ []
+  pub one_root : HasOneRoot net.ty net
+  pub hangs : (k : SegmentNumber) → k < length (segments net) → Hangs rec net k
+  pub entered_once : (i j : SegmentNumber) (r : Res) → Enters rec net i r → Enters rec net j r
+      → i ≡ j
+  pub roots_not_entered : (root k : SegmentNumber) (r : Res) → IsRoot net root
+      → in_end rec net root ≡ Some r → ¬ Enters rec net k r
+
+abbrev pub TreesFollow : Type 0
+TreesFollow = (names : List Text) (rec : DeviceRec) (phys : Phys) → HasPreorder phys
+    → Legal Routed names rec phys → (n : NetNumber) (net : PhysNet)
+    → slice_get phys.nets n ≡ Some net → AreTrees rec net
+
+-- No resource has two holders, as far as the level asks it.
+abbrev pub HoldersAreOne : Type 0
+HoldersAreOne = (level : Level) (names : List Text) (rec : DeviceRec) (phys : Phys)
+    → Legal level names rec phys → (r : Res) → Counts level rec phys r → (one other : NetRef)
+    → Holds rec phys.nets r one → Holds rec phys.nets r other → one ≡ other
+
+-- A netlist of which a broken rule is told isn't legal, and there is one answer.
+abbrev pub BrokenIsNotLegal : Type 0
+BrokenIsNotLegal = (level : Level) (names : List Text) (rec : DeviceRec) (phys : Phys)
+    (rule : Rule) (place : Place) → IsFirstBroken level names rec phys rule place
+    → ¬ Legal level names rec phys
+
+abbrev pub AnswersAreOne : Type 0
+AnswersAreOne = (level : Level) (names : List Text) (rec : DeviceRec) (phys : Phys)
+    (one other : Option (Rule × Place)) → IsAnswer level names rec phys one
+    → IsAnswer level names rec phys other → one ≡ other

@@ -44,13 +44,13 @@ abbrev pub HasEnd : DeviceRec → PhysNet → Res → Type 0
 HasEnd rec net r = (k : SegmentNumber) × IsEnd rec net k r
 
 -- one of these nets, of which the first has number 0, has it so
-pub record HoldsByWiring (rec : DeviceRec) (nets : List PhysNet) (r : Res) (holder : NetRef) : Type 0
-  where
-    pub number : NetNumber
-    pub net : PhysNet
-    pub net_is : slice_get nets number ≡ Some net
-    pub holder_is : as_holder number net.ty ≡ holder
-    pub has_end : HasEnd rec net r
+pub record HoldsByWiring (rec : DeviceRec) (nets : List PhysNet) (r : Res) (holder : NetRef)
+    : Type 0 where
+  pub number : NetNumber
+  pub net : PhysNet
+  pub net_is : slice_get nets number ≡ Some net
+  pub holder_is : as_holder number net.ty ≡ holder
+  pub has_end : HasEnd rec net r
 
 -- A net holds what its segments have as an end. A node of a constant is besides held by the net of
 -- that constant.

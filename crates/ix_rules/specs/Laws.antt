@@ -1,5 +1,5 @@
 -- What follows from the rules.
-use Rattle.std.specs.Prelude.{◌≡◌, ◌<◌, List, [], ◌∷◌, length, slice_get, Option, Some}
+use Rattle.std.specs.Prelude.{◌≡◌, ◌↔◌, ◌<◌, List, [], ◌∷◌, length, slice_get, Option, Some}
 use Rattle.ix_message.specs.Shape.{Text}
 use Rattle.ix_num.specs.declared.resource.NetRef.{NetRef}
 use Rattle.ix_num.specs.declared.resource.Res.{Res}
@@ -8,13 +8,15 @@ use Rattle.ix_rec.specs.declared.phys.Phys.{Phys}
 use Rattle.ix_rec.specs.declared.phys.PhysNet.{PhysNet}
 use Rattle.ix_rec.specs.declared.phys.NetType.{NetType}
 use Rattle.ix_rec.specs.declared.phys.NetType.TheVariants.{Signal}
+use Rattle.ix_rec.specs.declared.phys.Segment.{Segment}
 use Rattle.ix_rec.specs.declared.place.Place.{Place}
 use Rattle.ix_rec.specs.declared.place.Rule.{Rule}
 use Rattle.ix_rules.specs.declared.level.Level.{Level}
 use Rattle.ix_rules.specs.declared.level.Level.TheVariants.{Routed}
 use Rattle.ix_rules.specs.Segments.{NetNumber, SegmentNumber, segments, HasPreorder, IsRoot}
-use Rattle.ix_rules.specs.Segments.{IsParent, in_end, out_end, Enters}
+use Rattle.ix_rules.specs.Segments.{IsParent, segment_at, in_end, out_end, Enters}
 use Rattle.ix_rules.specs.Holders.{Holds}
+use Rattle.ix_rules.specs.Trees.{IsSource}
 use Rattle.ix_rules.specs.Sharing.{Counts}
 use Rattle.ix_rules.specs.Legal.{Legal, IsFirstBroken, IsAnswer}
 
@@ -42,12 +44,16 @@ pub record Hangs (rec : DeviceRec) (net : PhysNet) (k : SegmentNumber) : Type 0 
 
 -- a signal net has one root, its first segment
 abbrev pub HasOneRoot : NetType → PhysNet → Type 0
-HasOneRoot Signal net = (k : SegmentNumber) → (IsRoot net k → k ≡ 0) × (k ≡ 0 → IsRoot net k)
+HasOneRoot Signal net = (k : SegmentNumber) → IsRoot net k ↔ (k ≡ 0)
 HasOneRoot constant net = Unit {0}
 
-pub record AreTrees (rec : DeviceRec) (net : PhysNet) : Type 0 where
-  pub from_sources : net.stubs ≡ []
+-- Each root is a driver, or a source of the net's constant. Every segment hangs from a root through
+-- equal ends. No resource is entered twice, or entered as a root's in-end.
+pub record AreTrees (rec : DeviceRec) (phys : Phys) (net : PhysNet) : Type 0 where
+  pub no_stubs : net.stubs ≡ []
   pub one_root : HasOneRoot net.ty net
+  pub roots : (root : SegmentNumber) (s : Segment) → IsRoot net root
+      → segment_at net root ≡ Some s → IsSource net.ty rec phys root s
   pub hangs : (k : SegmentNumber) → k < length (segments net) → Hangs rec net k
   pub entered_once : (i j : SegmentNumber) (r : Res) → Enters rec net i r → Enters rec net j r
       → i ≡ j
@@ -57,7 +63,7 @@ pub record AreTrees (rec : DeviceRec) (net : PhysNet) : Type 0 where
 abbrev pub TreesFollow : Type 0
 TreesFollow = (names : List Text) (rec : DeviceRec) (phys : Phys) → HasPreorder phys
     → Legal Routed names rec phys → (n : NetNumber) (net : PhysNet)
-    → slice_get phys.nets n ≡ Some net → AreTrees rec net
+    → slice_get phys.nets n ≡ Some net → AreTrees rec phys net
 
 -- No resource has two holders, as far as the level asks it.
 abbrev pub HoldersAreOne : Type 0

@@ -14,7 +14,7 @@ use Rattle.ix_rec.specs.declared.place.Rule.TheVariants.{L1, L2, L3, L4, L5, L6,
 use Rattle.ix_rules.specs.declared.level.Level.{Level}
 use Rattle.ix_rules.specs.TableKeys.{text_of}
 use Rattle.ix_rules.specs.Spots.{Spot, InstanceAt, PlacementAt, NetAt, SegmentAt, PropertyAt}
-use Rattle.ix_rules.specs.Spots.{ElementAt, IsFirst, Everywhere}
+use Rattle.ix_rules.specs.Spots.{ElementAt, IsFirstBreak, Everywhere}
 use Rattle.ix_rules.specs.Names.{IsNamed}
 use Rattle.ix_rules.specs.Placements.{IsPlaced, MapsPins}
 use Rattle.ix_rules.specs.Trees.{IsJoined, IsRooted, IsApart}
@@ -38,15 +38,25 @@ Asks level names rec phys rule spot = Unit {0}
 -- A netlist is legal at a level where it keeps all rules of the level. Names are numbers of a
 -- table.
 pub record Legal (level : Level) (names : List Text) (rec : DeviceRec) (phys : Phys) : Type 0 where
+  -- what is named is there, and each segment has ends
   pub l1 : Everywhere (IsNamed names rec phys)
+  -- cells, BELs and sites are used once, BELs by cells that they admit, sites as their own type
   pub l2 : Everywhere (IsPlaced rec phys)
+  -- pin maps fit the device
   pub l3 : Everywhere (MapsPins rec phys)
+  -- a segment begins where its parent ends
   pub l4 : Everywhere (IsJoined rec phys)
+  -- the trees of a net begin at its driver, or at sources of its constant; stubs begin at nodes
   pub l5 : Everywhere (IsRooted rec phys)
+  -- no resource is entered twice in a net, or where a tree of it begins
   pub l6 : Everywhere (IsApart rec phys)
+  -- no resource has two holders
   pub l7 : Everywhere (IsUnshared level rec phys)
+  -- sites that nets go through have instances
   pub l8 : Everywhere (IsInUse phys)
+  -- elements with LUTs have tables that give them functions
   pub l9 : Everywhere (IsTabled names rec phys)
+  -- there are no stubs in a routed netlist
   pub l10 : Everywhere (IsRouted level phys)
 
 -- What is told: the first rule that isn't kept, and the first place at which it isn't.
@@ -88,7 +98,7 @@ pub record IsFirstBroken (level : Level) (names : List Text) (rec : DeviceRec) (
   pub earlier : (other : Rule) → order other < order rule
       → Everywhere (Asks level names rec phys other)
   pub spot : Spot
-  pub first : IsFirst (λ s. ¬ Asks level names rec phys rule s) spot
+  pub first : IsFirstBreak (Asks level names rec phys rule) spot
   pub told : IsPlaceOf names phys spot place
 
 -- the answer of a checker: none exactly of a legal netlist

@@ -2,18 +2,21 @@
 use Rattle.std.specs.Prelude.{◌≡◌, ◌↔◌, ℕ, List, length, slice_get, Contains, Some, IsSome}
 use Rattle.ix_message.specs.Shape.{Text}
 use Rattle.ix_num.specs.Numbers.{NameNumber, SiteNumber, SiteWireNumber}
-use Rattle.ix_num.specs.declared.resource.NetRef.TheVariants as nets
+use Rattle.ix_num.specs.declared.resource.NetRef.TheVariants as holders
+use Rattle.ix_num.specs.declared.resource.Res.{Res}
 use Rattle.ix_num.specs.declared.resource.Res.TheVariants.{Wire}
 use Rattle.ix_rec.specs.declared.device.DeviceRec.{DeviceRec}
 use Rattle.ix_rec.specs.declared.device.LutBel.{LutBel}
 use Rattle.ix_rec.specs.declared.device.LutCell.{LutCell}
 use Rattle.ix_rec.specs.declared.phys.Phys.{Phys}
 use Rattle.ix_rec.specs.declared.phys.CellPlacement.{CellPlacement}
+use Rattle.ix_rec.specs.declared.phys.PhysNet.{PhysNet}
 use Rattle.ix_rec.specs.declared.phys.SiteInstance.{SiteInstance}
 use Rattle.ix_device.specs.Lookups.{site_named}
 use Rattle.ix_device.specs.Shapes.{BelSeen, ShapeSeen}
 use Rattle.ix_lut.specs.Tables.{TableBits, InputPlace, IsTable}
-use Rattle.ix_lut.specs.Places.{LineNumber, Held, ElementBits, GivesFunction}
+use Rattle.ix_lut.specs.Places.{LineNumber, LutPlace, Held, ElementBits, GivesFunction}
+use Rattle.ix_lut.specs.declared.shape.Tie.{Tie}
 use Rattle.ix_lut.specs.declared.shape.Tie.TheVariants as ties
 use Rattle.ix_rules.specs.Sites.{ElementNumber, lut_cell_of, lut_bel_at, element_at}
 use Rattle.ix_rules.specs.Sites.{shape_at, lines_at}
@@ -21,18 +24,6 @@ use Rattle.ix_rules.specs.Holders.{Holds}
 use Rattle.ix_rules.specs.TableKeys.{HasTable}
 use Rattle.ix_rules.specs.Placements.{MapsInputs}
 use Rattle.ix_rules.specs.Spots.{Spot, AskedOf, ElementAt}
-
--- what holds each line of an element: the net of the constant that holds the line's site wire
-pub record AreHeld (rec : DeviceRec) (phys : Phys) (site : NameNumber) (element : ElementNumber)
-    (held : Held) : Type 0 where
-  pub number : SiteNumber
-  pub site_is : site_named rec site ≡ Some number
-  pub gnd : (line : LineNumber) (wire : SiteWireNumber)
-      → slice_get (lines_at rec site element) line ≡ Some wire
-      → (held line ≡ ties.Gnd) ↔ Holds rec phys.nets (Wire number wire) nets.Gnd
-  pub vcc : (line : LineNumber) (wire : SiteWireNumber)
-      → slice_get (lines_at rec site element) line ≡ Some wire
-      → (held line ≡ ties.Vcc) ↔ Holds rec phys.nets (Wire number wire) nets.Vcc
 
 -- a cell is placed on the BEL at this place of this element of a site
 pub record IsInElement (rec : DeviceRec) (phys : Phys) (site : NameNumber)
@@ -47,25 +38,46 @@ pub record HasLut (rec : DeviceRec) (phys : Phys) (site : NameNumber) (element :
   pub is_in : IsInElement rec phys site element place placement
   pub lut_is : lut_cell_of rec placement.ty ≡ Some lut
 
--- The function of a LUT at this place of an element, of which the table has these bits: its inputs
--- where its pin map has them, the others at any value that agrees with the constants that hold
+-- the BEL of a LUT as its element's shape has it, and where its pin map has its inputs
+pub record IsLutOn (rec : DeviceRec) (element : ElementNumber) (place : ℕ)
+    (placement : CellPlacement) (lut : LutCell) (on : LutPlace) : Type 0 where
+  pub bel : LutBel
+  pub bel_is : lut_bel_at rec placement.site placement.bel ≡ Some bel
+  pub inputs : MapsInputs lut bel placement on.places
+  pub shape : ShapeSeen
+  pub shape_is : shape_at rec placement.site element ≡ Some shape
+  pub seen : BelSeen
+  pub seen_is : slice_get shape.bels place ≡ Some seen
+  pub low : on.low ≡ seen.low
+  pub lines : on.lines ≡ seen.lines
+
+-- a wire is held so: by the net of a constant, or by none of the two
+pub record IsHeld (rec : DeviceRec) (nets : List PhysNet) (wire : Res) (tie : Tie) : Type 0 where
+  pub gnd : (tie ≡ ties.Gnd) ↔ Holds rec nets wire holders.Gnd
+  pub vcc : (tie ≡ ties.Vcc) ↔ Holds rec nets wire holders.Vcc
+
+-- so are the wires of the inputs that a LUT on an element of a site doesn't use
+pub record AreHeld (rec : DeviceRec) (nets : List PhysNet) (site : NameNumber)
+    (element : ElementNumber) (on : LutPlace) (held : Held) : Type 0 where
+  pub number : SiteNumber
+  pub site_is : site_named rec site ≡ Some number
+  pub each : (input : InputPlace) (line : LineNumber) (wire : SiteWireNumber)
+      → ¬ Contains on.places input → slice_get on.lines input ≡ Some line
+      → slice_get (lines_at rec site element) line ≡ Some wire
+      → IsHeld rec nets (Wire number wire) (held line)
+
+-- The function of a LUT at this place of an element, of which the table has these bits: whatever
+-- the values of the inputs that it doesn't use, as long as they agree with the constants that hold
 -- their wires.
 pub record IsFunction (rec : DeviceRec) (phys : Phys) (element : ElementNumber) (place : ℕ)
-    (placement : CellPlacement) (lut : LutCell) (bits : ElementBits) (function : TableBits) : Type 0
-  where
-    pub bel : LutBel
-    pub bel_is : lut_bel_at rec placement.site placement.bel ≡ Some bel
-    pub places : List InputPlace
-    pub inputs : MapsInputs lut bel placement places
-    pub shape : ShapeSeen
-    pub shape_is : shape_at rec placement.site element ≡ Some shape
-    pub seen : BelSeen
-    pub seen_is : slice_get shape.bels place ≡ Some seen
-    pub held : Held
-    pub are_held : AreHeld rec phys placement.site element held
-    pub is_table : IsTable (length lut.input_pins) function
-    pub gives : GivesFunction record { low = seen.low; lines = seen.lines; places = places } held bits
-        function
+    (placement : CellPlacement) (lut : LutCell) (bits : ElementBits) (function : TableBits)
+    : Type 0 where
+  pub on : LutPlace
+  pub is_on : IsLutOn rec element place placement lut on
+  pub held : Held
+  pub are_held : AreHeld rec phys.nets placement.site element on held
+  pub is_table : IsTable (length lut.input_pins) function
+  pub gives : GivesFunction on held bits function
 
 -- L9, of an element of a site with an instance: where a LUT is placed in it, no plain cell is, and
 -- it has a table, which gives each of its LUTs a function.

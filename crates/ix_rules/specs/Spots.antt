@@ -33,15 +33,15 @@ key (ElementAt i element) = 4 ∷ i ∷ element ∷ []
 abbrev pub IsBefore : Spot → Spot → Type 0
 IsBefore a b = IsLess (key a) (key b)
 
--- this place has the property, and none before it has
-pub record IsFirst (P : Spot → Type 0) (spot : Spot) : Type 0 where
-  pub here : P spot
-  pub first : (other : Spot) → IsBefore other spot → ¬ P other
-
 -- A rule is what it asks at each place. Of two things that break it together the later one does:
 -- so at each place what stands before it is looked at, and not what comes after.
 abbrev pub Everywhere : (Spot → Type 0) → Type 0
-Everywhere P = (spot : Spot) → P spot
+Everywhere Asked = (spot : Spot) → Asked spot
+
+-- what is asked isn't so at this place, and is so at all places before it
+pub record IsFirstBreak (Asked : Spot → Type 0) (spot : Spot) : Type 0 where
+  pub broken : ¬ Asked spot
+  pub kept_before : (other : Spot) → IsBefore other spot → Asked other
 
 -- what is asked of the thing at a place of a list; past the end nothing
 abbrev pub AskedOf : {A : Type 0} → List A → ℕ → (A → Type 0) → Type 0

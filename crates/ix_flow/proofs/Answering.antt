@@ -38,7 +38,7 @@ use Rattle.ix_job.specs.declared.stop.Stop.TheVariants.{Refused, Memory as NoMem
 use Rattle.ix_flow.specs.Answer.{NamedDevice, rule_of, device_in, design_in, placed, written}
 use Rattle.ix_flow.specs.Answer.{implemented}
 use Rattle.ix_flow.specs.Named.{named_device, named_cells, TellsUnread}
-use Rattle.ix_first_fit.proofs.Apart.{own_places}
+use Rattle.ix_first_fit.specs.Laws.{FitsHaveOwnPlaces}
 use Rattle.ix_flow.proofs.MoreNames.{more_device}
 
 -- the name of the cell where first fit stops
@@ -133,9 +133,9 @@ pub no_site_told : (rec : DeviceRec) (names : List Text) (cells : List Cell) (k 
 no_site_told rec names cells k text s is =
     inr record { place = k; cell = text; stuck = s; cell_is = is; report_is = refl }
 
-pub placed_told : (rec : DeviceRec) (names : List Text) (cells : List Cell) (phys : Phys)
-    → IsFitted rec cells phys → placed rec (named_cells names cells) (Ok phys)
-placed_told rec names cells phys fitted =
+pub placed_told : FitsHaveOwnPlaces → (rec : DeviceRec) (names : List Text) (cells : List Cell)
+    (phys : Phys) → IsFitted rec cells phys → placed rec (named_cells names cells) (Ok phys)
+placed_told own_places rec names cells phys fitted =
     record { fitted = fitted; own = own_places rec cells phys fitted }
 
 pub written_told : (names : List Text) (cells : List Cell) (phys : Phys) (bytes : List ℕ)

@@ -1,27 +1,24 @@
 -- What status 0 says, from a run of the job.
-use Rattle.std.proofs.Common.{◌≡◌, ◌∙◌, refl, ap, sym, subst, inl, inr, ◌⊎◌, ℕ, zero, suc, ◌<◌}
-use Rattle.std.proofs.Common.{Bool, true, false, List, [], ◌∷◌, length, map, slice_get, Option}
+use Rattle.std.proofs.Common.{◌≡◌, ◌∙◌, refl, ap, sym, subst, inl, inr, ◌⊎◌, ℕ, zero, suc}
+use Rattle.std.proofs.Common.{true, false, List, [], ◌∷◌, length, map, slice_get, Option}
 use Rattle.std.proofs.Common.{Some, None, option_map, slice_index_or, Result, Ok, Err}
-use Rattle.std.proofs.lemmas.Option.{slice_get_within}
 use Rattle.ix_rec.specs.declared.device.DeviceRec.{DeviceRec}
 use Rattle.ix_rec.specs.declared.phys.CellPlacement.{CellPlacement}
 use Rattle.ix_rec.specs.declared.phys.Phys.{Phys}
 use Rattle.ix_report.specs.declared.report.Report.{Report}
 use Rattle.ix_report.specs.declared.report.Report.TheVariants as a_report
-use Rattle.ix_frame.specs.Segments.{Segments}
 use Rattle.ix_message.specs.Shape.{Text}
-use Rattle.ix_shelf.specs.Shelf.{Files, with_file}
+use Rattle.ix_shelf.specs.Shelf.{Files}
 use Rattle.ix_shelf.specs.declared.shelf.Failed.{Failed}
 use Rattle.ix_device.specs.Elements.{differ}
-use Rattle.ix_first_form.specs.FirstForm.{cells_in}
 use Rattle.ix_first_form.specs.FirstCells.{cell_seen}
 use Rattle.ix_first_fit.specs.declared.cell.Cell.{Cell}
 use Rattle.ix_first_fit.specs.declared.cell.Spot.{Spot}
 use Rattle.ix_first_fit.specs.Spots.{admits}
 use Rattle.ix_first_fit.specs.Netlist.{IsPinMap}
 use Rattle.ix_first_fit.specs.Laws.{IsOnPlace, HasOwnPlaces}
-use Rattle.ix_job.specs.Outside.{Outside, is_done, stands}
-use Rattle.ix_job.specs.Job.{Content, Outcome, AreContents, with_files, IsJobRun, IsAnswered}
+use Rattle.ix_job.specs.Outside.{Outside, is_done}
+use Rattle.ix_job.specs.Job.{Content, Outcome, AreContents, with_files}
 use Rattle.ix_job.specs.Job.{IsEnding, RunsJob}
 use Rattle.ix_job.specs.Chain.{comes_to}
 use Rattle.ix_flow.specs.declared.status.Status.{Status}
@@ -30,7 +27,7 @@ use Rattle.ix_flow.specs.Words.{Flow}
 use Rattle.ix_flow.specs.Status.{status_of}
 use Rattle.ix_flow.specs.Answer.{NamedDevice, NamedCells, IsPlaced, IsWritten, answer}
 use Rattle.ix_flow.specs.Answer.{IsFlowOutcome}
-use Rattle.ix_flow.specs.Run.{job_for, IsRun, IsFlowRun, ended}
+use Rattle.ix_flow.specs.Run.{job_for, IsRun, ended}
 use Rattle.ix_flow.specs.Implements.{NamesPlace, KeepsNames, KeepsPlaces, placed_texts, Implements}
 use Rattle.ix_flow.specs.Implements.{HasImplemented, IsImplemented}
 use Rattle.ix_flow.proofs.Outputs.{answer_refuses}

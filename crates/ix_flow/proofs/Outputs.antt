@@ -1,5 +1,5 @@
 -- An answer has one output, and a refusal none.
-use Rattle.std.proofs.Common.{◌≡◌, ◌∙◌, refl, ap, sym, subst, ℕ, inl, inr, [], ◌∷◌, List, length}
+use Rattle.std.proofs.Common.{◌≡◌, ◌∙◌, refl, ap, sym, subst, inl, inr, [], length}
 use Rattle.std.proofs.Common.{Result, Ok, Err, Bool, true, false, IfOk}
 use Rattle.std.specs.Prelude.{if◌then◌else◌}
 use Rattle.ix_rec.specs.declared.device.DeviceRec.{DeviceRec}

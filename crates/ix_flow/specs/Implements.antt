@@ -1,7 +1,7 @@
 -- What status 0 of `flow` says of the netlist that it wrote. Designs have no nets and no LUT cells
 -- yet: so no rule on segments, on trees or on tables has anything to judge.
 use Rattle.std.specs.Prelude.{◌≡◌, ℕ, List, [], ◌∷◌, length, map, slice_get, true, Option, Some}
-use Rattle.std.specs.Prelude.{None, option_map, slice_index_or, Result, Ok}
+use Rattle.std.specs.Prelude.{None, option_map, slice_index_or, Ok}
 use Rattle.ix_frame.specs.Segments.{Segments}
 use Rattle.ix_strings.specs.Names.{KeepsNumbers}
 use Rattle.ix_message.specs.Shape.{Text}

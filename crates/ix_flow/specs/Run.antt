@@ -1,6 +1,6 @@
 -- What a run of the program does to the outside, and what its status says.
 use Rattle.std.specs.Prelude.{◌≡◌, ◌≤◌, ◌⊎◌, ℕ, List, [], ◌∷◌, Option, Some, None, Result, Ok, Err}
-use Rattle.ix_shelf.specs.Shelf.{Files, with_file}
+use Rattle.ix_shelf.specs.Shelf.{Files}
 use Rattle.ix_shelf.specs.declared.shelf.Failed.{Failed}
 use Rattle.ix_report.specs.Lines.{line_of}
 use Rattle.ix_report.specs.declared.report.Report as reports

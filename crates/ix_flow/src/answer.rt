@@ -26,7 +26,7 @@ use ix_capw::BuildFault;
 use ix_device::{Device, DeviceFault};
 use ix_device_read::read_device;
 use ix_first::number_of;
-use ix_first_fit::{Cell, FitFault, first_fit};
+use ix_first_fit::{Cell, FitFault, first_fit, fits_have_own_places};
 use ix_first_form::read_first_form;
 use ix_frame::Frame;
 use ix_job::{Content, Outcome, Stop};
@@ -215,6 +215,8 @@ fn place(alloc: Global, device: &Device, names: &Names, cells: &Items<Cell>) -> 
         result }
     ensures named { IfOk result (IsPhysNamed names.now) }
 {
+    // What first fit gives has each cell on a place of its own.
+    fits_have_own_places();
     match first_fit(alloc, device, cells) {
         Ok(phys) => Ok(phys),
         Err(fault) => match unplaced(alloc, names, cells, fault) {

@@ -1,6 +1,6 @@
 -- Where nothing fails, it is told what the inputs come to.
 use Rattle.std.proofs.Common.{◌≡◌, refl, sym, subst, ◌∙◌, ℕ, zero, suc, ◌⊎◌, inl, inr, List, []}
-use Rattle.std.proofs.Common.{◌∷◌, map, Option, Some, None, option_map, slice_get, Result, Ok, Err}
+use Rattle.std.proofs.Common.{◌∷◌, map, Option, Some, None, slice_get, Result, Ok, Err}
 use Rattle.std.proofs.Common.{IsSome}
 use Rattle.std.specs.List.{AllByRecursion}
 use Rattle.std.proofs.lemmas.Option.{same_Some, none-some}

@@ -2,4 +2,3 @@ pub mod Setting
 pub mod FaultLines
 pub mod Ending
 pub mod Complete
-pub mod Chains

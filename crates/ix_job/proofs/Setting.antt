@@ -3,7 +3,7 @@ use Rattle.std.proofs.Common.{◌≡◌, refl, sym, ap, subst, ◌∙◌, ℕ, z
 use Rattle.std.proofs.Common.{◌⊎◌, inl, inr, min, List, [], ◌∷◌, ◌++◌, map, take, length, slice_get}
 use Rattle.std.proofs.Common.{get_or, Option, Some, None, option_map, IsSome, arith}
 use Rattle.std.specs.List.{AllByRecursion}
-use Rattle.std.proofs.lemmas.Option.{same_Some, none-some, slice_get_within, slice_get-map}
+use Rattle.std.proofs.lemmas.Option.{none-some, slice_get_within, slice_get-map}
 use Rattle.std.proofs.lemmas.Option.{slice_get-get_or, get_or_from_slice_get}
 use Rattle.std.proofs.lemmas.List.{map-append, take_more, length-take-le}
 use Rattle.ix_shelf.specs.Shelf.{Files, Counts, NoneFalls, Rose, IsAbsent, with_file}
@@ -156,12 +156,3 @@ still_counts before mid now p e = subst (NoneFalls before) (sym e) p
 pub falls_later : (before mid now : Counts) → mid ≡ before → NoneFalls mid now
     → NoneFalls before now
 falls_later before mid now e p = subst (λ (counts : Counts). NoneFalls counts now) e p
-
--- a list of two items
-pub two_items : {A : Type 0} (xs : List A) (a b : A) → length xs ≡ 2 → slice_get xs 0 ≡ Some a
-    → slice_get xs 1 ≡ Some b → xs ≡ a ∷ b ∷ []
-two_items [] a b n p q = absurd (omega (arith, n))
-two_items (x ∷ []) a b n p q = absurd (omega (arith, n))
-two_items (x ∷ y ∷ []) a b n p q = let h : x ≡ a = same_Some x a p in let k : y ≡ b =
-    same_Some y b q in cc
-two_items (x ∷ y ∷ z ∷ xs) a b n p q = absurd (omega (arith, n))

@@ -3,5 +3,6 @@ pub mod Outside
 pub mod Job
 pub mod Chain
 pub mod Views
--- For private contracts and proofs.
+-- For private contracts and proofs, also of commands.
 pub mod Steps
+pub mod Chains

@@ -36,7 +36,6 @@ impl<'c, 'n, 'a> Take<CellContext<'c, 'n, 'a>> for Net {
 
     ghost asks = { λ c. steps net (lists_in c.netlist.now) (cell_entry c ∷ []) };
 
-    #[tactic(auto, unfolding(ix_schema::specs::Said::said, ix_message::specs::Reading::row_at, ix_message::specs::Indexes::steps, ix_message::specs::Names::record_of, ix_take::specs::Walked::walked, ix_take::specs::Views::kind_word, ix_take::specs::Views::field_word, crate::specs::Asking::lists_in))]
     fn take(o: Obj<'_>, ctx: &CellContext<'c, 'n, 'a>, walk: &mut Walk) -> Result<Net, Stop> {
         walk.begin(4);
         let at = At { o, kind: 4 };
@@ -78,7 +77,6 @@ impl<'n, 'a> Take<NetlistContext<'n, 'a>> for Cell {
 
     ghost asks = { asks_in cell };
 
-    #[tactic(auto, unfolding(ix_schema::specs::Said::said, ix_message::specs::Reading::row_at, ix_message::specs::Indexes::steps, ix_message::specs::Names::record_of, ix_take::specs::Walked::walked, ix_take::specs::Views::kind_word, ix_take::specs::Views::field_word, crate::specs::Asking::lists_in))]
     fn take(o: Obj<'_>, ctx: &NetlistContext<'n, 'a>, walk: &mut Walk) -> Result<Cell, Stop> {
         walk.begin(5);
         let at = At { o, kind: 5 };

@@ -71,7 +71,6 @@ impl<'n, 'a> Take<NetlistContext<'n, 'a>> for Entry {
 
     ghost asks = { asks_in entry };
 
-    #[tactic(auto, unfolding(crate::specs::Asking::lists_in, ix_schema::specs::Said::said, ix_message::specs::Reading::row_at, ix_message::specs::Indexes::steps, ix_message::specs::Names::record_of, ix_take::specs::Walked::walked, ix_take::specs::Views::kind_word, ix_take::specs::Views::field_word))]
     fn take(o: Obj<'_>, ctx: &NetlistContext<'n, 'a>, walk: &mut Walk) -> Result<Entry, Stop> {
         walk.begin(0);
         let at = At { o, kind: 0 };

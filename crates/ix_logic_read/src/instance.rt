@@ -26,7 +26,6 @@ impl<'n, 'a> Take<NetlistContext<'n, 'a>> for CellInstance {
 
     ghost asks = { asks_in cell_instance };
 
-    #[tactic(auto, unfolding(ix_schema::specs::Said::said, ix_message::specs::Reading::row_at, ix_message::specs::Indexes::steps, ix_message::specs::Names::record_of, ix_take::specs::Walked::walked, ix_take::specs::Views::kind_word, ix_take::specs::Views::field_word, crate::specs::Asking::lists_in))]
     fn take(
         o: Obj<'_>,
         ctx: &NetlistContext<'n, 'a>,
@@ -65,7 +64,6 @@ impl<'n, 'a> Take<NetlistContext<'n, 'a>> for CellDeclaration {
 
     ghost asks = { asks_in cell_declaration };
 
-    #[tactic(auto, unfolding(ix_schema::specs::Said::said, ix_message::specs::Reading::row_at, ix_message::specs::Indexes::steps, ix_message::specs::Names::record_of, ix_take::specs::Walked::walked, ix_take::specs::Views::kind_word, ix_take::specs::Views::field_word, crate::specs::Asking::lists_in))]
     fn take(
         o: Obj<'_>,
         ctx: &NetlistContext<'n, 'a>,

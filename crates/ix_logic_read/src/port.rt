@@ -53,7 +53,6 @@ impl<'n, 'a> Take<NetlistContext<'n, 'a>> for Port {
 
     ghost asks = { asks_in port };
 
-    #[tactic(auto, unfolding(ix_schema::specs::Said::said, ix_message::specs::Reading::row_at, ix_message::specs::Indexes::steps, ix_message::specs::Names::record_of, ix_take::specs::Walked::walked, ix_take::specs::Views::kind_word, ix_take::specs::Views::field_word, crate::specs::Asking::lists_in))]
     fn take(o: Obj<'_>, ctx: &NetlistContext<'n, 'a>, walk: &mut Walk) -> Result<Port, Stop> {
         walk.begin(6);
         let at = At { o, kind: 6 };

@@ -177,7 +177,6 @@ impl<'c, 'n, 'a> Take<CellContext<'c, 'n, 'a>> for PortInstance {
     ghost asks = { λ c. steps port_instance (lists_in c.netlist.now)
         (no_entry ∷ cell_entry c ∷ []) };
 
-    #[tactic(auto, unfolding(ix_schema::specs::Said::said, ix_message::specs::Reading::row_at, ix_message::specs::Indexes::steps, ix_message::specs::Names::record_of, ix_take::specs::Walked::walked, ix_take::specs::Views::kind_word, ix_take::specs::Views::field_word))]
     fn take(
         o: Obj<'_>,
         ctx: &CellContext<'c, 'n, 'a>,

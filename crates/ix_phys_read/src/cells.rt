@@ -26,7 +26,6 @@ impl<'n> Take<PhysContext<'n>> for PinMapping {
 
     ghost asks = { asks_in pin_mapping };
 
-    #[tactic(auto, unfolding(ix_schema::specs::Said::said, ix_message::specs::Reading::row_at, ix_message::specs::Indexes::steps, ix_message::specs::Names::record_of, ix_take::specs::Walked::walked, ix_take::specs::Views::kind_word, ix_take::specs::Views::field_word))]
     fn take(o: Obj<'_>, ctx: &PhysContext<'n>, walk: &mut Walk) -> Result<PinMapping, Stop> {
         walk.begin(0);
         let at = At { o, kind: 0 };
@@ -62,7 +61,6 @@ impl<'n> Take<PhysContext<'n>> for CellPlacement {
 
     ghost asks = { asks_in cell_placement };
 
-    #[tactic(auto, unfolding(ix_schema::specs::Said::said, ix_message::specs::Reading::row_at, ix_message::specs::Indexes::steps, ix_message::specs::Names::record_of, ix_take::specs::Walked::walked, ix_take::specs::Views::kind_word, ix_take::specs::Views::field_word))]
     fn take(o: Obj<'_>, ctx: &PhysContext<'n>, walk: &mut Walk) -> Result<CellPlacement, Stop> {
         walk.begin(1);
         let at = At { o, kind: 1 };
@@ -102,7 +100,6 @@ impl<'n> Take<PhysContext<'n>> for SiteInstance {
 
     ghost asks = { asks_in site_instance };
 
-    #[tactic(auto, unfolding(ix_schema::specs::Said::said, ix_message::specs::Reading::row_at, ix_message::specs::Indexes::steps, ix_message::specs::Names::record_of, ix_take::specs::Walked::walked, ix_take::specs::Views::kind_word, ix_take::specs::Views::field_word))]
     fn take(o: Obj<'_>, ctx: &PhysContext<'n>, walk: &mut Walk) -> Result<SiteInstance, Stop> {
         walk.begin(3);
         let at = At { o, kind: 3 };
@@ -133,7 +130,6 @@ impl<'n> Take<PhysContext<'n>> for Property {
 
     ghost asks = { asks_in property };
 
-    #[tactic(auto, unfolding(ix_schema::specs::Said::said, ix_message::specs::Reading::row_at, ix_message::specs::Indexes::steps, ix_message::specs::Names::record_of, ix_take::specs::Walked::walked, ix_take::specs::Views::kind_word, ix_take::specs::Views::field_word))]
     fn take(o: Obj<'_>, ctx: &PhysContext<'n>, walk: &mut Walk) -> Result<Property, Stop> {
         walk.begin(4);
         let at = At { o, kind: 4 };

@@ -1,5 +1,5 @@
 //! The reader of physical netlists.
-#![tactic(auto)]
+#![tactic(auto, unfolding(ix_schema::specs::Said::said, ix_message::specs::Reading::row_at, ix_message::specs::Indexes::steps, ix_message::specs::Names::record_of, ix_take::specs::Walked::walked, ix_take::specs::Views::kind_word, ix_take::specs::Views::field_word,))]
 
 mod branches;
 mod cells;

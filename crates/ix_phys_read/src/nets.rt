@@ -42,7 +42,6 @@ impl<'n> Take<PhysContext<'n>> for PhysNet {
 
     ghost asks = { asks_in phys_net };
 
-    #[tactic(auto, unfolding(ix_schema::specs::Said::said, ix_message::specs::Reading::row_at, ix_message::specs::Indexes::steps, ix_message::specs::Names::record_of, ix_take::specs::Walked::walked, ix_take::specs::Views::kind_word, ix_take::specs::Views::field_word))]
     fn take(o: Obj<'_>, ctx: &PhysContext<'n>, walk: &mut Walk) -> Result<PhysNet, Stop> {
         walk.begin(2);
         let at = At { o, kind: 2 };

@@ -64,7 +64,6 @@ fn third_name(
 
 /// The segment that a branch makes, or the first of its numbers that is out of its list. The third
 /// name of a site pin isn't looked at; its second one stands there in the record.
-#[tactic(auto, unfolding(ix_message::specs::Reading::row_at, ix_take::specs::Walked::walked, ix_take::specs::Views::kind_word, ix_take::specs::Views::field_word))]
 pub fn take_segment(o: Obj<'_>, ctx: &Context<'_>, walk: &mut Walk) -> Result<Segment, Stop>
     ensures made { Takes counted_structs (segment_row ctx.now.names.now) result walk.new
         (data_of (table_of ctx.now) (row_at segment 0 (object_of o.entry)) segment

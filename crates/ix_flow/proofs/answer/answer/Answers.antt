@@ -2,7 +2,7 @@ use Rattle.ix_frame.specs.Views.{segments_of}
 use Rattle.ix_rec.specs.declared.place.File.TheVariants.{Device}
 use Rattle.ix_job.specs.Views.{content_seen, outcome_seen}
 use Rattle.ix_job.specs.Chain.{and_then}
-use Rattle.ix_job.proofs.Chains.{exits_first, goes_on}
+use Rattle.ix_job.specs.Chains.{exits_first, goes_on}
 use Rattle.ix_flow.specs.Answer.{opens, device_in, answer_for}
 use Rattle.ix_flow.specs.Named.{named_device}
 use Rattle.ix_flow.proofs.answer.answer.Goals as goal

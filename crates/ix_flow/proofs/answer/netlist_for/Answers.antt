@@ -1,5 +1,5 @@
 use Rattle.ix_job.specs.Views.{outcome_seen}
-use Rattle.ix_job.proofs.Chains.{exits_first, goes_on}
+use Rattle.ix_job.specs.Chains.{exits_first, goes_on}
 use Rattle.ix_flow.specs.Answer.{placed, written}
 use Rattle.ix_flow.specs.Named.{named_cells}
 use Rattle.ix_flow.proofs.answer.netlist_for.Goals as goal

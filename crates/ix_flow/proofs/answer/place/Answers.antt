@@ -2,5 +2,5 @@ use Rattle.ix_flow.proofs.Answering.{placed_told}
 use Rattle.ix_flow.proofs.answer.place.Goals as goal
 
 pub returns-in-Ok-clause-placed : goal.returns-in-Ok-clause-placed
-returns-in-Ok-clause-placed c = placed_told c.args.device.now c.args.names.now c.args.cells.now
+returns-in-Ok-clause-placed c = placed_told c.fits_have_own_places.ensures c.args.device.now c.args.names.now c.args.cells.now
     c.in-Ok.phys c.in-Ok.ensures.fitted

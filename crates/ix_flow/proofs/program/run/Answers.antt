@@ -1,6 +1,5 @@
-use Rattle.std.proofs.Common.{◌≡◌, Option, Some, subst}
+use Rattle.std.proofs.Common.{Option, subst}
 use Rattle.ix_job.specs.Outside.{outside}
-use Rattle.ix_flow.specs.declared.status.Status.TheVariants as stat
 use Rattle.ix_flow.specs.Words.{Flow}
 use Rattle.ix_flow.specs.Run.{IsRun, IsComplete}
 use Rattle.ix_flow.proofs.Implementing.{run_implements, usage_not_done}

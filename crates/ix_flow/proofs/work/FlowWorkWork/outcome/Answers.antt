@@ -1,7 +1,7 @@
 use Rattle.std.proofs.Common.{List, ap, sym, subst, map, inl, IfOk}
 use Rattle.ix_job.specs.Job.{Content}
 use Rattle.ix_job.specs.Views.{content_seen, outcome_seen}
-use Rattle.ix_job.proofs.Setting.{two_items}
+use Rattle.ix_job.specs.Chains.{two_items}
 use Rattle.ix_flow.proofs.Ending.{refused_comes}
 use Rattle.ix_flow.proofs.Outputs.{answer_one, refused_none}
 use Rattle.ix_flow.specs.Answer.{answer, IsFlowOutcome}

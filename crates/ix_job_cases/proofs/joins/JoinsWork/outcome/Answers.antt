@@ -5,9 +5,9 @@ use Rattle.ix_rec.specs.declared.place.Rule.TheVariants.{E2}
 use Rattle.ix_rec.specs.declared.place.Place.TheVariants as places
 use Rattle.ix_report.specs.declared.report.Report.TheVariants.{No, Demo}
 use Rattle.ix_job.specs.declared.work.Outcome as made
-use Rattle.ix_job.specs.Job.{Content, Outcome, HasOutputs}
+use Rattle.ix_job.specs.Job.{Content, HasOutputs}
 use Rattle.ix_job.specs.Views.{content_seen, outcome_seen}
-use Rattle.ix_job.proofs.Setting.{two_items}
+use Rattle.ix_job.specs.Chains.{two_items}
 use Rattle.ix_job_cases.specs.Joins.{joined, IsJoined}
 use Rattle.ix_job_cases.proofs.joins.JoinsWork.outcome.Goals as goal
 

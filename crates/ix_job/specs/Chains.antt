@@ -1,5 +1,7 @@
--- How the code's steps make a chain.
-use Rattle.std.proofs.Common.{◌≡◌, ◌∙◌, ap, sym, subst, Result, Ok, Err, inl, inr}
+-- What the answers of commands are proved by: how the code's steps make a chain.
+use Rattle.std.proofs.Common.{◌≡◌, ◌∙◌, ap, sym, subst, Result, Ok, Err, inl, inr, List, [], ◌∷◌}
+use Rattle.std.proofs.Common.{length, slice_get, Some, arith}
+use Rattle.std.proofs.lemmas.Option.{same_Some}
 use Rattle.std.specs.Result.{IsErrAnd}
 use Rattle.std.proofs.lemmas.Result.{err_from_is_err_and}
 use Rattle.ix_job.specs.declared.stop.Stop.{Stop}
@@ -27,3 +29,12 @@ exits_first view all step next stop r e h =
     let p = err_from_is_err_and r e in
     subst (Meets all (and_then step next)) (sym (p.1 ∙ ap Err p.2))
     (stops_first view all step next stop h)
+
+-- a list of two items
+pub two_items : {A : Type 0} (xs : List A) (a b : A) → length xs ≡ 2 → slice_get xs 0 ≡ Some a
+    → slice_get xs 1 ≡ Some b → xs ≡ a ∷ b ∷ []
+two_items [] a b n p q = absurd (omega (arith, n))
+two_items (x ∷ []) a b n p q = absurd (omega (arith, n))
+two_items (x ∷ y ∷ []) a b n p q = let h : x ≡ a = same_Some x a p in let k : y ≡ b =
+    same_Some y b q in cc
+two_items (x ∷ y ∷ z ∷ xs) a b n p q = absurd (omega (arith, n))

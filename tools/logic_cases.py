@@ -17,6 +17,7 @@ from pathlib import Path
 
 import logic_reading
 import message
+from stored import write_or_check
 
 TOP = Path(__file__).resolve().parent.parent
 SCHEMA = TOP / "examples" / "schema" / "netlist.capnp"
@@ -391,15 +392,7 @@ def main():
     lines, answers = lines_and_answers()
     head = "# What each shows, the names before, its file, and changes of words. Written by tools/logic_cases.py.\n"
     wanted = {CASES / "data" / "netlists": head + "\n".join(lines) + "\n", CASES / "stdout": "\n".join(answers) + "\n"}
-    if sys.argv[1:] == ["check"]:
-        wrong = [path for path, text in wanted.items() if path.read_text(encoding="utf8") != text]
-        for path in wrong:
-            print(f"logic_cases: {path} isn't what this script writes")
-        print(f"logic_cases: {len(answers)} cases compared")
-        sys.exit(bool(wrong))
-    for path, text in wanted.items():
-        path.parent.mkdir(exist_ok=True)
-        path.write_text(text, encoding="utf8")
+    write_or_check("logic_cases", wanted, len(answers))
 
 
 if __name__ == "__main__":

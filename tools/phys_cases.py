@@ -13,6 +13,7 @@ import sys
 from pathlib import Path
 
 import message
+from stored import write_or_check
 
 TOP = Path(__file__).resolve().parent.parent
 SCHEMA = TOP / "examples" / "schema" / "phys.capnp"
@@ -208,17 +209,9 @@ def main():
     answers.append(f"{shows}: {many} segments, the deepest at {many - 1}; written as it was, reads again")
     head = "# What each shows, its file, and for a chain how many branches it has. Written by tools/phys_cases.py.\n"
     wanted = {CASES / "data" / "netlists": head + "\n".join(lines) + "\n", CASES / "stdout": "\n".join(answers) + "\n"}
-    if sys.argv[1:] == ["check"]:
-        wrong = [path for path, text in wanted.items() if path.read_text(encoding="utf8") != text]
-        for path in wrong:
-            print(f"phys_cases: {path} isn't what this script writes")
-        print(f"phys_cases: {len(answers)} cases compared")
-        sys.exit(bool(wrong))
-    if sys.argv[1:]:
+    if sys.argv[1:] not in ([], ["check"]):
         sys.exit(__doc__)
-    for path, text in wanted.items():
-        path.parent.mkdir(exist_ok=True)
-        path.write_text(text, encoding="utf8")
+    write_or_check("phys_cases", wanted, len(answers))
 
 
 if __name__ == "__main__":

@@ -35,7 +35,8 @@ pub struct CellContext<'c, 'n, 'a> {
 
 impl<'n, 'a> NetlistContext<'n, 'a> {
     ghost use Rattle.std.specs.Prelude.{◌≡◌, ◌<◌, ◌+◌, length, slice_index};
-    ghost use Rattle.ix_message.specs.Indexes.{bus_width, entry_at, has_number, ports_of_declaration};
+    ghost use Rattle.ix_message.specs.Indexes.{bus_width, entry_at, has_number};
+    ghost use Rattle.ix_message.specs.Indexes.{ports_of_declaration};
     ghost use Rattle.ix_logic_read.specs.Asking.{lists_in};
 
     /// How many declarations there are.

@@ -33,7 +33,8 @@ pub fn take_netlist(
     requires insts { elements_of ctx.now.insts ≡ sound_elements (object_of root) 6 }
     ensures made { Takes netlist_structs (netlist_record ctx.now.texts.names.now) result walk.new
         (made_in netlist ctx.now (said netlist (object_of root.entry)))
-        (walked netlist_structs walk.old (root_asks ctx.now (said netlist (object_of root.entry)))) }
+        (walked netlist_structs walk.old
+        (root_asks ctx.now (said netlist (object_of root.entry)))) }
     ensures named { IfOk result (IsNetlistNamed ctx.now.texts.names.now) }
 {
     let alloc = ctx.texts.alloc;

@@ -1,0 +1,3 @@
+-- What public contracts say.
+pub mod Listed
+pub mod Naming

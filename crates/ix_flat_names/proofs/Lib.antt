@@ -1,0 +1,3 @@
+pub mod OneFirst
+pub mod Walked
+pub mod NetFound

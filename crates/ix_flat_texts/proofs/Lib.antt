@@ -1,0 +1,4 @@
+pub mod Joins
+pub mod Along
+pub mod Named
+pub mod Way

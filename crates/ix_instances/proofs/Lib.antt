@@ -1,0 +1,9 @@
+pub mod Gets
+pub mod Reached
+pub mod Ways
+pub mod Spots
+pub mod Paths
+pub mod Listing
+pub mod Declared
+pub mod Turning
+pub mod Walking

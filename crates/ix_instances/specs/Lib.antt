@@ -1,0 +1,3 @@
+-- What public contracts say.
+-- For private contracts and proofs.
+pub mod Walked

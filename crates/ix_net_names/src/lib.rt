@@ -1,0 +1,6 @@
+//! The names of the signal nets of a flat design.
+#![tactic(auto)]
+
+mod naming;
+
+pub use naming::put_net_names;

@@ -1,0 +1,3 @@
+-- What public contracts say.
+pub mod Least
+pub mod Walking

@@ -1,0 +1,6 @@
+//! Which occurrences of nets are one net.
+#![tactic(auto)]
+
+mod firsts;
+
+pub use firsts::first_occurrences;

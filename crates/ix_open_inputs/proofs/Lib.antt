@@ -1,0 +1,4 @@
+pub mod BusBits
+pub mod Ordered
+pub mod Nets
+pub mod Marks

@@ -1,0 +1,4 @@
+pub mod Slices
+pub mod Reaching
+pub mod Cutting
+pub mod Parents

@@ -1,0 +1,6 @@
+//! The rows that name port bits of an instance.
+#![tactic(auto)]
+
+mod found;
+
+pub use found::{RowsOf, rows_of};

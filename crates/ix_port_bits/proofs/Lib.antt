@@ -1,0 +1,5 @@
+pub mod Order
+pub mod Listing
+pub mod Members
+pub mod Together
+pub mod Reached

@@ -1,0 +1,16 @@
+pub mod Places
+pub mod Closing
+pub mod CellLemmas
+pub mod Parts
+pub mod Ways
+pub mod Shapes
+pub mod Visiting
+pub mod Merging
+pub mod Entering
+pub mod Leaving
+pub mod Working
+pub mod Stepping
+pub mod Ending
+pub mod Meeting
+pub mod Starting
+pub mod Reading

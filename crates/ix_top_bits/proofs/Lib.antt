@@ -1,0 +1,5 @@
+pub mod Slices
+pub mod Places
+pub mod Pushing
+pub mod Cells
+pub mod Found

@@ -1,0 +1,10 @@
+pub mod Least
+pub mod Listing
+pub mod Order
+pub mod Meaning
+pub mod Twins
+pub mod Both
+pub mod InCell
+pub mod Reached
+pub mod Turns
+pub mod Walking

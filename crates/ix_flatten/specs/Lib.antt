@@ -1,0 +1,1 @@
+-- What public contracts say.

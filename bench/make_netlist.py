@@ -3,7 +3,8 @@
 
 usage: make_netlist.py SHAPE SIZE FILE
 
-SHAPE is `flat` (SIZE instances of a LUT in one cell, and a net from each to two others) or `levels` (SIZE blocks, each of four
+SHAPE is `flat` (SIZE instances of a LUT in one cell, and a net from each to two others), `blocks` (SIZE instances of one cell
+of 1,049 LUTs in a row) or `levels` (SIZE blocks, each of four
 lanes of eight flip-flops, eight LUT4 and eight LUT2, with buffers at two buses and a clock: with 16 blocks it has the shape
 of the program's demo 16, 1,602 cells in three levels).
 """
@@ -161,9 +162,27 @@ def levels(size):
     })
 
 
+def blocks(size):
+    """A row of so many instances of one cell, in which 1,049 LUT1 stand in a row: 2^20 leaves under 1,000 blocks."""
+    made = Levels()
+    top = made.declare("top", a="in", z="out")
+    block = made.declare("block", i="in", o="out")
+    lut1 = made.declare("LUT1", I0="in", O="out")
+    nets = {"a": pins(".a", "b0.i")}
+    nets |= {f"n{k}": pins(f"b{k}.o", f"b{k + 1}.i") for k in range(size - 1)}
+    nets |= {"z": pins(f"b{size - 1}.o", ".z")}
+    made.cell(top, [(f"b{k}", block, None) for k in range(size)], nets)
+    inner = {"i": pins(".i", "u0.I0")} | {f"n{k}": pins(f"u{k}.O", f"u{k + 1}.I0") for k in range(1048)}
+    made.cell(block, [(f"u{k}", lut1, "2'h1") for k in range(1049)], inner | {"o": pins("u1048.O", ".o")})
+    return message.encode(SCHEMA, {
+        "name": "blocks", "topInst": {"name": made.name("top")}, "strList": list(made.texts), "cellDecls": made.declarations,
+        "portList": made.ports, "instList": made.instances, "cellList": made.cells,
+    })
+
+
 def main():
     shape, size, path = sys.argv[1], int(sys.argv[2]), sys.argv[3]
-    file = {"flat": flat, "levels": levels}[shape](size)
+    file = {"flat": flat, "levels": levels, "blocks": blocks}[shape](size)
     Path(path).write_bytes(file)
     print(f"{len(file)} bytes")
 

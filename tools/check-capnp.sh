@@ -99,7 +99,6 @@ encode_design() { # NAME CHECK WORDS.., the message as text on standard input
 }
 
 done_line="done: 0 cells, 0 clusters, 0 nets, 0 pips, trial 1, rounds 1"
-unbuilt_line="not built yet: design"
 
 design "a top alone" 0 "$done_line" <<'END'
 (strList = ["top"], cellDecls = [(name = 0)])
@@ -112,17 +111,17 @@ design "instances that nothing uses" 0 "$done_line" <<'END'
 (name = "a name of more than a word", topInst = (name = 0, cell = 0), strList = ["top", "u0", "u1", "leaf"],
  cellDecls = [(name = 0), (name = 3)], instList = [(name = 1, cell = 1), (name = 2, cell = 1)], cellList = [(index = 0)])
 END
-# The device has no cell types, so a design with an instance in its top isn't in first form.
-design "a top with an instance" 9 "$unbuilt_line" <<'END'
+# The device has no cell types, and so no type of leaves and no BEL for ports.
+design "a top with an instance" 3 "design: N9 at u0" <<'END'
 (name = "design", topInst = (name = 0, cell = 0), strList = ["top", "u0", "leaf"],
  cellDecls = [(name = 0), (name = 2)], instList = [(name = 1, cell = 1)], cellList = [(index = 0, insts = [0])])
 END
-design "a top with a port and a net" 9 "$unbuilt_line" <<'END'
+design "a top with a port and a net" 4 'too few bels: $PORT_IN needs 4 of 0' <<'END'
 (name = "design", topInst = (name = 0, cell = 0), strList = ["top", "p", "n"],
  cellDecls = [(name = 0, ports = [0])], portList = [(name = 1, dir = 0, kind = 1, busStart = 3, busEnd = 0)],
  cellList = [(index = 0, nets = [(name = 2, portInsts = [(port = 0, busTag = 1, idx = 2)])])])
 END
-design "a property" 9 "$unbuilt_line" <<'END'
+design "a property" 0 "$done_line" <<'END'
 (strList = ["top", "key"], cellDecls = [(name = 0)], propMap = (entries = [(key = 1, tag = 1, value = 7)]))
 END
 

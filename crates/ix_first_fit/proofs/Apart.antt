@@ -6,7 +6,7 @@ use Rattle.std.proofs.lemmas.Map.Keys.{any_passes_from_place}
 use Rattle.std.proofs.lemmas.List.{length-append}
 use Rattle.std.proofs.lemmas.Option.{same_Some, none-some, slice_get_within}
 use Rattle.ix_rec.specs.declared.device.DeviceRec.{DeviceRec}
-use Rattle.ix_first_fit.specs.declared.cell.Cell.{Cell}
+use Rattle.ix_rec.specs.declared.flow.FlatCell.{FlatCell}
 use Rattle.ix_first_fit.specs.declared.cell.Spot.{Spot}
 use Rattle.ix_first_fit.specs.Spots.{spot_eq, is_taken}
 use Rattle.ix_first_fit.specs.Fit.{FitFirst}
@@ -28,13 +28,13 @@ same_spot p = ap (λ b. b && nat_eq p.bel p.bel) (eq-eqb p.site p.site refl) ∙
 taken_before : (places : List Spot) (i j : ℕ) (p : Spot) → i < j → slice_get places i ≡ Some p → is_taken (take j places) p ≡ true
 taken_before places i j p lt at = any_passes_from_place (λ q. spot_eq p q) (take j places) i p (take_get places j i lt ∙ at) (same_spot p)
 
-not_twice : (rec : DeviceRec) (cells : List Cell) (places : List Spot) → FitFirst rec cells places → length places ≡ length cells → (i j : ℕ) (p : Spot) → i < j → slice_get places i ≡ Some p → slice_get places j ≡ Some p → ⊥
+not_twice : (rec : DeviceRec) (cells : List FlatCell) (places : List Spot) → FitFirst rec cells places → length places ≡ length cells → (i j : ℕ) (p : Spot) → i < j → slice_get places i ≡ Some p → slice_get places j ≡ Some p → ⊥
 not_twice rec cells places fit count i j p lt at_i at_j =
     let within = slice_get_within places j p at_j in
     let c = item_at cells j (omega arith) in
     true≢false (sym (taken_before places i j p lt at_i) ∙ (fit.each j c.0 p c.1 at_j).free)
 
-apart : (rec : DeviceRec) (cells : List Cell) (places : List Spot) → FitFirst rec cells places → length places ≡ length cells → Differ places
+apart : (rec : DeviceRec) (cells : List FlatCell) (places : List Spot) → FitFirst rec cells places → length places ≡ length cells → Differ places
 apart rec cells places fit count i j p at_i at_j = by (cases_lt i j) (cases_lt j i)
   where
     by : (i < j) ⊎ (j ≤ i) → (j < i) ⊎ (i ≤ j) → i ≡ j

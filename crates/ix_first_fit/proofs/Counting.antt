@@ -7,9 +7,9 @@ use Rattle.ix_first_fit.specs.Fit.{Suffices}
 use Rattle.std.proofs.lemmas.List.Sums.{sum_by_more, count_by-le-length}
 use Rattle.ix_rec.specs.declared.device.DeviceRec.{DeviceRec}
 use Rattle.ix_rec.specs.declared.device.SiteType.{SiteType}
+use Rattle.ix_rec.specs.declared.flow.FlatCell.{FlatCell}
 use Rattle.ix_device.specs.Lookups.{in_type, type_of_site}
 use Rattle.ix_device.specs.Admission.{pins_in}
-use Rattle.ix_first_fit.specs.declared.cell.Cell.{Cell}
 use Rattle.ix_first_fit.specs.Spots.{type_at, pins_at, admits, spot, count_below, sum_below, bels_of_site, takers_at, cells_of}
 use Rattle.ix_first_fit.proofs.Walks.{length_take}
 
@@ -56,16 +56,16 @@ all_takers rec ty t n u e same site h =
     count_same (λ b. takes_in rec ty t b) (λ b. admits rec ty (spot site b)) n (λ b. admits_in rec ty site t b h) ∙ ap (λ m. count_below (λ b. admits rec ty (spot site b)) m) (same ∙ sym (bels_at rec site t u h e))
 
 -- one more cell
-pub cells_next : (ty : ℕ) (cells : List Cell) (i : ℕ) (c : Cell) → slice_get cells i ≡ Some c → cells_of ty (take (i + 1) cells) ≡ cells_of ty (take i cells) + cond (nat_eq c.ty ty) 1 0
+pub cells_next : (ty : ℕ) (cells : List FlatCell) (i : ℕ) (c : FlatCell) → slice_get cells i ≡ Some c → cells_of ty (take (i + 1) cells) ≡ cells_of ty (take i cells) + cond (nat_eq c.ty ty) 1 0
 unfolding cells_of
 cells_next ty cells i c h =
     sum_by_more (λ x. cond (nat_eq x.ty ty) 1 0) cells i c (slice_get_within cells i c h) ∙ ap (λ x. cells_of ty (take i cells) + cond (nat_eq x.ty ty) 1 0) (get_or_from_slice_get cells i c c h)
 
-pub cells_start : (ty : ℕ) (cells : List Cell) → cells_of ty (take 0 cells) ≡ 0
+pub cells_start : (ty : ℕ) (cells : List FlatCell) → cells_of ty (take 0 cells) ≡ 0
 unfolding cells_of
 cells_start ty cells = refl
 
-pub cells_few : (ty : ℕ) (cells : List Cell) (i : ℕ) → i < length cells → cells_of ty (take i cells) ≤ i
+pub cells_few : (ty : ℕ) (cells : List FlatCell) (i : ℕ) → i < length cells → cells_of ty (take i cells) ≤ i
 unfolding cells_of
 cells_few ty cells i h = let le = count_by-le-length (λ c. nat_eq c.ty ty) (take i cells) in let len = length_take cells i h in omega arith
 
@@ -95,7 +95,7 @@ told_takers rec ty t n here told site h = by (slice_get rec.site_type_list t) re
     by (Some u) e same = all_takers rec ty t n u e same site h
 
 -- the cells of each type, with one cell more
-pub cells_step : (cells : List Cell) (i : ℕ) (c : Cell) (old new : ℕ → Option ℕ) (m : ℕ) → slice_get cells i ≡ Some c → ((ty : ℕ) → unwrap_or (old ty) 0 ≡ cells_of ty (take i cells))
+pub cells_step : (cells : List FlatCell) (i : ℕ) (c : FlatCell) (old new : ℕ → Option ℕ) (m : ℕ) → slice_get cells i ≡ Some c → ((ty : ℕ) → unwrap_or (old ty) 0 ≡ cells_of ty (take i cells))
     → m ≡ unwrap_or (old c.ty) 0 → ((q : ℕ) → new q ≡ cond (nat_eq c.ty q) (Some (m + 1)) (old q)) → (ty : ℕ) → unwrap_or (new ty) 0 ≡ cells_of ty (take (i + 1) cells)
 cells_step cells i c old new m at before is step ty = ap (λ o. unwrap_or o 0) (step ty) ∙ by (nat_eq c.ty ty) refl ∙ sym (cells_next ty cells i c at)
   where
@@ -107,11 +107,11 @@ cells_step cells i c old new m at before is step ty = ap (λ o. unwrap_or o 0) (
     by false h = before ty ∙ none (cells_of ty (take i cells)) ∙ ap (λ b. cells_of ty (take i cells) + cond b 1 0) (sym h)
 
 -- the types that were seen have enough BELs, with one cell more
-pub record Seen (rec : DeviceRec) (cells : List Cell) (i : ℕ) (table : ℕ → Option (Unit {0})) : Type 0 where
+pub record Seen (rec : DeviceRec) (cells : List FlatCell) (i : ℕ) (table : ℕ → Option (Unit {0})) : Type 0 where
   pub seen : (q : ℕ) → IsSome (table q) → Suffices rec cells q
-  pub earlier : (j : ℕ) (c : Cell) → j < i → slice_get cells j ≡ Some c → Suffices rec cells c.ty
+  pub earlier : (j : ℕ) (c : FlatCell) → j < i → slice_get cells j ≡ Some c → Suffices rec cells c.ty
 
-pub seen_step : (rec : DeviceRec) (cells : List Cell) (i : ℕ) (c : Cell) (old new : ℕ → Option (Unit {0})) → slice_get cells i ≡ Some c → Seen rec cells i old → Suffices rec cells c.ty
+pub seen_step : (rec : DeviceRec) (cells : List FlatCell) (i : ℕ) (c : FlatCell) (old new : ℕ → Option (Unit {0})) → slice_get cells i ≡ Some c → Seen rec cells i old → Suffices rec cells c.ty
     → ((q : ℕ) → new q ≡ or_later (old q) (nat_eq c.ty q) (tt {0})) → Seen rec cells (i + 1) new
 seen_step rec cells i c old new at before here step = record {
   seen = λ q h. by q (old q) refl (subst IsSome (step q) h);
@@ -126,7 +126,7 @@ seen_step rec cells i c old new at before here step = record {
         same true g h = subst (λ x. Suffices rec cells x) (eqb-true c.ty q g) here
         same false g h = absurd (false≢true h)
 
-    earlier : (j : ℕ) (d : Cell) (b : Bool) → nat_eq j i ≡ b → j < i + 1 → slice_get cells j ≡ Some d → Suffices rec cells d.ty
+    earlier : (j : ℕ) (d : FlatCell) (b : Bool) → nat_eq j i ≡ b → j < i + 1 → slice_get cells j ≡ Some d → Suffices rec cells d.ty
     earlier j d true g lt e = subst (λ x. Suffices rec cells x.ty) (same_Some c d (sym at ∙ ap (λ k. slice_get cells k) (sym (eqb-true j i g)) ∙ e)) here
     earlier j d false g lt e = before.earlier j d (let ne : j ≢ i = eqb-false j i g in omega arith) e
 

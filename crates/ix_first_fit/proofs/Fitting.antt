@@ -11,9 +11,9 @@ use Rattle.ix_rec.specs.declared.device.DeviceRec.{DeviceRec}
 use Rattle.ix_rec.specs.declared.device.SiteType.{SiteType}
 use Rattle.ix_rec.specs.declared.device.Bel.{Bel}
 use Rattle.ix_rec.specs.declared.device.Site.{Site}
+use Rattle.ix_rec.specs.declared.flow.FlatCell.{FlatCell}
 use Rattle.ix_device.specs.Lookups.{type_of_site, type_of_tile, sites_of}
 use Rattle.ix_device.specs.Admission.{pins_in, admitted}
-use Rattle.ix_first_fit.specs.declared.cell.Cell.{Cell}
 use Rattle.ix_first_fit.specs.declared.cell.Spot.{Spot}
 use Rattle.ix_first_fit.specs.Spots.{type_at, pins_at, admits, spot, spot_eq, IsBefore, is_taken}
 use Rattle.ix_first_fit.specs.Fit.{IsFirstFree, FitFirst}
@@ -132,7 +132,7 @@ found_spot rec taken ty site first b before found = record {
         later (inr lt) = before q (inr (same.0, lt))
 
 -- what holds before cell i
-pub record FitsSoFar (rec : DeviceRec) (cells : List Cell) (i : ℕ) (places : List Spot) (last : ℕ → Option Spot) : Type 0 where
+pub record FitsSoFar (rec : DeviceRec) (cells : List FlatCell) (i : ℕ) (places : List Spot) (last : ℕ → Option Spot) : Type 0 where
   pub fit : FitFirst rec cells places
   pub count : length places ≡ i
   pub before : (q : ℕ) (p : Spot) → last q ≡ Some p → NoneBefore rec places q p
@@ -147,11 +147,11 @@ take_before (x ∷ xs) ys zero h = refl
 take_before (x ∷ xs) ys (suc k) h = ap (λ l. x ∷ l) (take_before xs ys k (omega arith))
 
 -- places where each is the first free one, and one more such
-pub fit_push : (rec : DeviceRec) (cells : List Cell) (places : List Spot) (c : Cell) (s : Spot) → slice_get cells (length places) ≡ Some c → FitFirst rec cells places → IsFirstFree rec places c.ty s
+pub fit_push : (rec : DeviceRec) (cells : List FlatCell) (places : List Spot) (c : FlatCell) (s : Spot) → slice_get cells (length places) ≡ Some c → FitFirst rec cells places → IsFirstFree rec places c.ty s
     → FitFirst rec cells (places ++ s ∷ [])
 fit_push rec cells places c s at fit here = record { each = λ k d p atk pk. by k d p (nat_eq k (length places)) refl atk pk }
   where
-    by : (k : ℕ) (d : Cell) (p : Spot) (b : Bool) → nat_eq k (length places) ≡ b → slice_get cells k ≡ Some d → slice_get (places ++ s ∷ []) k ≡ Some p → IsFirstFree rec (take k (places ++ s ∷ [])) d.ty p
+    by : (k : ℕ) (d : FlatCell) (p : Spot) (b : Bool) → nat_eq k (length places) ≡ b → slice_get cells k ≡ Some d → slice_get (places ++ s ∷ []) k ≡ Some p → IsFirstFree rec (take k (places ++ s ∷ [])) d.ty p
     by k d p true e atk pk =
         let last : k ≡ length places = eqb-true k (length places) e in
         let d_is : c ≡ d = same_Some c d (sym at ∙ ap (slice_get cells) (sym last) ∙ atk) in
@@ -166,7 +166,7 @@ fit_push rec cells places c s at fit here = record { each = λ k d p atk pk. by 
         subst (λ l. IsFirstFree rec l d.ty p) (sym (take_before places (s ∷ []) k lt)) (fit.each k d p atk (sym (slice_get_before places s k lt) ∙ pk))
 
 -- one more cell was placed
-pub fits_step : (rec : DeviceRec) (cells : List Cell) (i : ℕ) (places new : List Spot) (old last : ℕ → Option Spot) (c : Cell) (s : Spot) → slice_get cells i ≡ Some c → FitsSoFar rec cells i places old → IsFirstFree rec places c.ty s
+pub fits_step : (rec : DeviceRec) (cells : List FlatCell) (i : ℕ) (places new : List Spot) (old last : ℕ → Option Spot) (c : FlatCell) (s : Spot) → slice_get cells i ≡ Some c → FitsSoFar rec cells i places old → IsFirstFree rec places c.ty s
     → new ≡ places ++ s ∷ [] → ((q : ℕ) → last q ≡ cond (nat_eq c.ty q) (Some s) (old q)) → FitsSoFar rec cells (i + 1) new last
 fits_step rec cells i places new old last c s at so here is step = record {
   fit = subst (λ l. FitFirst rec cells l) (sym is) (fit_push rec cells places c s (ap (slice_get cells) so.count ∙ at) so.fit here);

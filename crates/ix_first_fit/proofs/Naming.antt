@@ -18,11 +18,11 @@ use Rattle.ix_rec.specs.declared.phys.PinMapping.{PinMapping}
 use Rattle.ix_rec.specs.declared.phys.CellPlacement.{CellPlacement}
 use Rattle.ix_rec.specs.declared.phys.SiteInstance.{SiteInstance}
 use Rattle.ix_rec.specs.declared.phys.Phys.{Phys}
+use Rattle.ix_rec.specs.declared.flow.FlatCell.{FlatCell}
 use Rattle.ix_device.specs.Lookups.{sites_from, sites_of, name_of_site, type_of_site}
 use Rattle.ix_device.specs.Admission.{pins_in, admitted, first_map, lists_bel, is_logic, fits_bel, takes_lut, numbered_pins}
 use Rattle.ix_device_read.specs.Named.{DeviceNamed, SiteTypeNamed, BelNamed, BelPinNamed, TileNamed, SiteNamed, CellBelMappingNamed, CommonCellBelPinMapsNamed, CellBelPinEntryNamed}
 use Rattle.ix_phys_write.specs.Record.{IsMappingNamed, IsPlacementNamed, IsInstanceNamed, IsNetNamed, IsPropertyNamed, IsPhysNamed}
-use Rattle.ix_first_fit.specs.declared.cell.Cell.{Cell}
 use Rattle.ix_first_fit.specs.declared.cell.Spot.{Spot}
 use Rattle.ix_first_fit.specs.Spots.{type_at, pins_at}
 use Rattle.ix_first_fit.specs.Netlist.{bel_name, pin_told, pin_in, pin_wanted, IsPinMap, IsPlacement, used_sites, instance_told, instance_wanted}
@@ -155,7 +155,7 @@ pin_map_named names rec ty p bel pins named below is = all_at (IsMappingNamed na
           bel_pin = is_named.2;
         }
 
-placement_named : (names : List Text) (rec : DeviceRec) (c : Cell) (p : Spot) (m : CellPlacement) → DeviceNamed (length names) rec → CellNamed (length names) c → IsPlacement rec c p m → IsPlacementNamed names m
+placement_named : (names : List Text) (rec : DeviceRec) (c : FlatCell) (p : Spot) (m : CellPlacement) → DeviceNamed (length names) rec → CellNamed (length names) c → IsPlacement rec c p m → IsPlacementNamed names m
 placement_named names rec c p m named cell is = record {
   cell_name = subst (λ x. x < length names) (sym is.cell_name) cell.name;
   ty = subst (λ x. x < length names) (sym is.ty) cell.ty;
@@ -176,7 +176,7 @@ instance_named names rec s i named h = by (name_of_site rec s) refl (type_at rec
           ty = subst (λ x. x < length names) (ap (λ y. y.1) same) (type_named (length names) rec s u named f).name;
         }
 
-pub fitted_named : (names : List Text) (rec : DeviceRec) (cells : List Cell) (phys : Phys) → DeviceNamed (length names) rec → AllByRecursion (CellNamed (length names)) cells → IsFitted rec cells phys → IsPhysNamed names phys
+pub fitted_named : (names : List Text) (rec : DeviceRec) (cells : List FlatCell) (phys : Phys) → DeviceNamed (length names) rec → AllByRecursion (CellNamed (length names)) cells → IsFitted rec cells phys → IsPhysNamed names phys
 fitted_named names rec cells phys named all is = record {
   part = subst (λ x. x < length names) (sym is.netlist.part) named.name;
   placements = all_at (IsPlacementNamed names) phys.placements placed;

@@ -12,11 +12,11 @@ use Rattle.ix_rec.specs.declared.phys.CellPlacement.{CellPlacement}
 use Rattle.ix_rec.specs.declared.phys.SiteInstance.{SiteInstance}
 use Rattle.ix_rec.specs.declared.device.Bel.{Bel}
 use Rattle.ix_rec.specs.declared.phys.PinMapping.{PinMapping}
+use Rattle.ix_rec.specs.declared.flow.FlatCell.{FlatCell}
 use Rattle.ix_device.specs.Lookups.{type_of_site, name_of_site, sites_of, in_type}
 use Rattle.ix_device.specs.Admission.{pins_in}
 use Rattle.ix_first_fit.specs.Fit.{FitFirst}
 use Rattle.ix_first_fit.proofs.Fitting.{admits_site, admits_within}
-use Rattle.ix_first_fit.specs.declared.cell.Cell.{Cell}
 use Rattle.ix_first_fit.specs.declared.cell.Spot.{Spot}
 use Rattle.ix_first_fit.specs.Spots.{type_at, pins_at, admits}
 use Rattle.ix_first_fit.specs.Netlist.{bel_name, pin_told, pin_in, pin_wanted, IsPlacement, with_site, used_after, used_sites, instance_told, instance_wanted}
@@ -32,18 +32,18 @@ pub pins_wanted : (rec : DeviceRec) (site bel : ℕ) (u : SiteType) (pins : List
 pins_wanted rec site bel u pins h = ap (λ o. map (λ pin. option_and_then (λ t. pin_in t bel pin) o) pins) (sym h)
 
 -- the placements of the first i cells
-pub record PlacedSoFar (rec : DeviceRec) (cells : List Cell) (places : List Spot) (i : ℕ) (all : List CellPlacement) : Type 0 where
+pub record PlacedSoFar (rec : DeviceRec) (cells : List FlatCell) (places : List Spot) (i : ℕ) (all : List CellPlacement) : Type 0 where
   pub count : length all ≡ i
-  pub each : (k : ℕ) (c : Cell) (p : Spot) (m : CellPlacement) → slice_get cells k ≡ Some c → slice_get places k ≡ Some p → slice_get all k ≡ Some m → IsPlacement rec c p m
+  pub each : (k : ℕ) (c : FlatCell) (p : Spot) (m : CellPlacement) → slice_get cells k ≡ Some c → slice_get places k ≡ Some p → slice_get all k ≡ Some m → IsPlacement rec c p m
 
-pub placed_step : (rec : DeviceRec) (cells : List Cell) (places : List Spot) (i : ℕ) (all new : List CellPlacement) (c : Cell) (p : Spot) (m : CellPlacement) → slice_get cells i ≡ Some c → slice_get places i ≡ Some p
+pub placed_step : (rec : DeviceRec) (cells : List FlatCell) (places : List Spot) (i : ℕ) (all new : List CellPlacement) (c : FlatCell) (p : Spot) (m : CellPlacement) → slice_get cells i ≡ Some c → slice_get places i ≡ Some p
     → PlacedSoFar rec cells places i all → IsPlacement rec c p m → new ≡ all ++ m ∷ [] → PlacedSoFar rec cells places (i + 1) new
 placed_step rec cells places i all new c p m at_c at_p so here is = record {
   count = ap length is ∙ length-append all (m ∷ []) ∙ ap (λ n. n + 1) so.count;
   each = λ k d q n kd kq kn. by k d q n (nat_eq k i) refl kd kq (sym (ap (λ l. slice_get l k) is) ∙ kn);
 }
   where
-    by : (k : ℕ) (d : Cell) (q : Spot) (n : CellPlacement) (b : Bool) → nat_eq k i ≡ b → slice_get cells k ≡ Some d → slice_get places k ≡ Some q → slice_get (all ++ m ∷ []) k ≡ Some n → IsPlacement rec d q n
+    by : (k : ℕ) (d : FlatCell) (q : Spot) (n : CellPlacement) (b : Bool) → nat_eq k i ≡ b → slice_get cells k ≡ Some d → slice_get places k ≡ Some q → slice_get (all ++ m ∷ []) k ≡ Some n → IsPlacement rec d q n
     by k d q n true e kd kq kn =
         let last : k ≡ i = eqb-true k i e in
         let d_is : c ≡ d = same_Some c d (sym at_c ∙ ap (slice_get cells) (sym last) ∙ kd) in
@@ -171,8 +171,8 @@ item_at (x ∷ xs) zero h = (x, refl)
 item_at (x ∷ xs) (suc k) h = item_at xs k (omega arith)
 
 -- the places' sites are there
-pub fit_sites : (rec : DeviceRec) (cells : List Cell) (places : List Spot) → FitFirst rec cells places → length places ≡ length cells → AllByRecursion (λ p. p.site < length (sites_of rec)) places
+pub fit_sites : (rec : DeviceRec) (cells : List FlatCell) (places : List Spot) → FitFirst rec cells places → length places ≡ length cells → AllByRecursion (λ p. p.site < length (sites_of rec)) places
 fit_sites rec cells places fit count = all_from_places (λ p. p.site < length (sites_of rec)) places (λ k p at. by k p at (item_at cells k (let lt = slice_get_within places k p at in omega arith)))
   where
-    by : (k : ℕ) (p : Spot) → slice_get places k ≡ Some p → (c : Cell) × (slice_get cells k ≡ Some c) → p.site < length (sites_of rec)
+    by : (k : ℕ) (p : Spot) → slice_get places k ≡ Some p → (c : FlatCell) × (slice_get cells k ≡ Some c) → p.site < length (sites_of rec)
     by k p at found = admits_site rec found.0.ty p (fit.each k found.0 p found.1 at).admitted

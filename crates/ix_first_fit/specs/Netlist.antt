@@ -9,8 +9,8 @@ use Rattle.ix_rec.specs.declared.phys.PinMapping.{PinMapping}
 use Rattle.ix_rec.specs.declared.phys.CellPlacement.{CellPlacement}
 use Rattle.ix_rec.specs.declared.phys.SiteInstance.{SiteInstance}
 use Rattle.ix_rec.specs.declared.phys.Phys.{Phys}
+use Rattle.ix_rec.specs.declared.flow.FlatCell.{FlatCell}
 use Rattle.ix_device.specs.Lookups.{name_of_site}
-use Rattle.ix_first_fit.specs.declared.cell.Cell.{Cell}
 use Rattle.ix_first_fit.specs.declared.cell.Spot.{Spot}
 use Rattle.ix_first_fit.specs.Spots.{type_at, pins_at}
 
@@ -40,8 +40,8 @@ pub record IsPinMap (rec : DeviceRec) (ty : ℕ) (p : Spot) (bel : ℕ) (pins : 
   pub rises : IsNonDecreasingBy (λ pin. pin.1) sorted
   pub told : map pin_told pins ≡ map (λ pin. pin_wanted rec p.site bel pin) sorted
 
-pub record IsPlacement (rec : DeviceRec) (cell : Cell) (p : Spot) (placement : CellPlacement) : Type
-    0 where
+pub record IsPlacement (rec : DeviceRec) (cell : FlatCell) (p : Spot) (placement : CellPlacement)
+    : Type 0 where
   pub cell_name : placement.cell_name ≡ cell.name
   pub ty : placement.ty ≡ cell.ty
   pub site : name_of_site rec p.site ≡ Some placement.site
@@ -49,10 +49,10 @@ pub record IsPlacement (rec : DeviceRec) (cell : Cell) (p : Spot) (placement : C
   pub pins : IsPinMap rec cell.ty p placement.bel placement.pin_map
 
 -- the placement of each cell on its place, in the order of the cells
-pub record ArePlacements (rec : DeviceRec) (cells : List Cell) (places : List Spot)
+pub record ArePlacements (rec : DeviceRec) (cells : List FlatCell) (places : List Spot)
     (placements : List CellPlacement) : Type 0 where
   pub count : length placements ≡ length places
-  pub each : (k : ℕ) (c : Cell) (p : Spot) (m : CellPlacement) → slice_get cells k ≡ Some c
+  pub each : (k : ℕ) (c : FlatCell) (p : Spot) (m : CellPlacement) → slice_get cells k ≡ Some c
       → slice_get places k ≡ Some p → slice_get placements k ≡ Some m → IsPlacement rec c p m
 
 -- sites with one more, which is added where it is new
@@ -82,8 +82,8 @@ AreInstances rec places instances = map instance_told instances
 
 -- The netlist has the device's name, the placements and the site instances, and no nets and no
 -- properties.
-pub record IsNetlist (rec : DeviceRec) (cells : List Cell) (places : List Spot) (phys : Phys) : Type
-    0 where
+pub record IsNetlist (rec : DeviceRec) (cells : List FlatCell) (places : List Spot) (phys : Phys)
+    : Type 0 where
   pub part : phys.part ≡ rec.name
   pub placements : ArePlacements rec cells places phys.placements
   pub nets : phys.nets ≡ []

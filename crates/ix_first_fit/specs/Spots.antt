@@ -5,9 +5,9 @@ use Rattle.std.specs.Prelude.{option_and_then, ◌⊎◌}
 use Rattle.std.specs.List.{list_any, count_by}
 use Rattle.ix_rec.specs.declared.device.DeviceRec.{DeviceRec}
 use Rattle.ix_rec.specs.declared.device.SiteType.{SiteType}
+use Rattle.ix_rec.specs.declared.flow.FlatCell.{FlatCell}
 use Rattle.ix_device.specs.Lookups.{sites_of, type_of_site}
 use Rattle.ix_device.specs.Admission.{pins_in}
-use Rattle.ix_first_fit.specs.declared.cell.Cell.{Cell}
 use Rattle.ix_first_fit.specs.declared.cell.Spot.{Spot}
 
 abbrev pub spot : (site bel : ℕ) → Spot
@@ -56,5 +56,5 @@ unfoldable pub count_bels : DeviceRec → ℕ → ℕ
 count_bels rec ty = sum_below (λ site. takers_at rec ty site) (length (sites_of rec))
 
 -- how many cells are of a type
-unfoldable pub cells_of : ℕ → List Cell → ℕ
+unfoldable pub cells_of : ℕ → List FlatCell → ℕ
 cells_of ty cells = count_by (λ c. nat_eq c.ty ty) cells

@@ -1,15 +1,6 @@
-//! Cells without nets, and the places that they take.
+//! The place that a cell takes.
 
-use ix_num::{BelId, NameId, SiteId};
-
-/// A cell that is on no net.
-#[derive(Clone, Copy)]
-pub struct Cell {
-    /// Its flat name.
-    pub name: NameId,
-    /// Its type.
-    pub ty: NameId,
-}
+use ix_num::{BelId, SiteId};
 
 /// A BEL of a site: a place for one cell.
 #[derive(Clone, Copy)]

@@ -9,17 +9,16 @@ ghost use Rattle.ix_first_fit.specs.Fit.{AllSuffice};
 ghost use Rattle.ix_first_fit.specs.Answers.{IsFitFault};
 
 use crate::by_type::ByType;
-use crate::cell::Cell;
 use crate::fault::FitFault;
 use ix_device::Device;
 use ix_first::{FirstByKey, number_of};
 use ix_keys::Key;
 use ix_num::{BelId, Memory, NameId, SiteId, SiteTypeId};
-use ix_rec::{DeviceRec, Items};
+use ix_rec::{DeviceRec, FlatCell, Items};
 use std::alloc::Global;
 
 // How many cells each type has.
-fn cell_counts(alloc: Global, cells: &Items<Cell>) -> Result<ByType<u64>, Memory>
+fn cell_counts(alloc: Global, cells: &Items<FlatCell>) -> Result<ByType<u64>, Memory>
     ensures { IfOk result (λ counts. (ty : ℕ)
         → unwrap_or (of_type counts ty) 0 ≡ cells_of ty cells.now) }
 {
@@ -89,7 +88,7 @@ fn count_bels(alloc: Global, device: &Device, ty: NameId) -> Result<u64, Memory>
 pub(crate) fn check_counts(
     alloc: Global,
     device: &Device,
-    cells: &Items<Cell>,
+    cells: &Items<FlatCell>,
 ) -> Result<(), FitFault>
     ensures ok { OnOk result (AllSuffice device.now cells.now) }
     ensures err { IfErr result (IsFitFault device.now cells.now) }

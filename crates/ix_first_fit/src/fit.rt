@@ -9,14 +9,14 @@ ghost use Rattle.ix_first_fit.specs.declared.cell.Spot.{Spot as SpotSeen};
 ghost use Rattle.ix_first_fit.specs.Taken.{NoneBefore, IsFirstBel, IsFirstSpot};
 
 use crate::by_type::ByType;
-use crate::cell::{Cell, Spot};
+use crate::cell::Spot;
 use crate::counts::bels_of;
 use crate::fault::FitFault;
 use crate::places::Places;
 use ix_device::Device;
 use ix_first::number_of;
 use ix_num::{BelId, Memory, NameId, SiteId};
-use ix_rec::Items;
+use ix_rec::{FlatCell, Items};
 use std::alloc::Global;
 
 // The first BEL of a site, from a number on, that is free and admits a cell type.
@@ -93,7 +93,11 @@ fn next_spot(
 /// # Errors
 ///
 /// `NoSite` exactly where first fit stops at a cell; `Memory`.
-pub(crate) fn fit(alloc: Global, device: &Device, cells: &Items<Cell>) -> Result<Places, FitFault>
+pub(crate) fn fit(
+    alloc: Global,
+    device: &Device,
+    cells: &Items<FlatCell>,
+) -> Result<Places, FitFault>
     requires { AllSuffice device.now cells.now }
     ensures fit { IfOk result (λ places. FitFirst device.now cells.now places) }
     ensures count { IfOk result (λ places. length places ≡ length cells.now) }

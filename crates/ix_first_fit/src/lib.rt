@@ -13,7 +13,7 @@ mod pin_map;
 mod places;
 mod whole;
 
-pub use cell::{Cell, Spot};
+pub use cell::Spot;
 pub use fault::FitFault;
 pub use laws::fits_have_own_places;
 pub use whole::first_fit;

@@ -8,20 +8,20 @@ ghost use Rattle.ix_first_fit.specs.Fit.{FitFirst};
 ghost use Rattle.ix_first_fit.specs.Netlist.{IsPlacement, ArePlacements, AreInstances, IsNetlist};
 ghost use Rattle.ix_first_fit.specs.Netlist.{instance_told, instance_wanted};
 
-use crate::cell::{Cell, Spot};
+use crate::cell::Spot;
 use crate::pin_map::pin_map;
 use ix_device::Device;
 use ix_first::FirstByKey;
 use ix_keys::Key;
 use ix_num::{Memory, SiteId};
-use ix_rec::{CellPlacement, Items, Phys, SiteInstance};
+use ix_rec::{CellPlacement, FlatCell, Items, Phys, SiteInstance};
 use std::alloc::Global;
 
 // The placement of a cell.
 fn placement(
     alloc: Global,
     device: &Device,
-    cell: &Cell,
+    cell: &FlatCell,
     spot: &Spot,
 ) -> Result<CellPlacement, Memory>
     requires { admits device.now cell.now.ty spot.now ≡ true }
@@ -45,7 +45,7 @@ fn placement(
 fn placements(
     alloc: Global,
     device: &Device,
-    cells: &Items<Cell>,
+    cells: &Items<FlatCell>,
     spots: &Items<Spot>,
 ) -> Result<Items<CellPlacement>, Memory>
     requires fit { FitFirst device.now cells.now spots.now }
@@ -95,7 +95,7 @@ fn instances(
 pub(crate) fn netlist(
     alloc: Global,
     device: &Device,
-    cells: &Items<Cell>,
+    cells: &Items<FlatCell>,
     spots: &Items<Spot>,
 ) -> Result<Phys, Memory>
     requires fit { FitFirst device.now cells.now spots.now }

@@ -8,13 +8,12 @@ ghost use Rattle.ix_phys_write.specs.Record.{IsPhysNamed};
 ghost use Rattle.ix_first_fit.specs.Named.{CellNamed};
 ghost use Rattle.ix_first_fit.specs.Answers.{IsFitted, IsFitFault};
 
-use crate::cell::Cell;
 use crate::counts::check_counts;
 use crate::fault::FitFault;
 use crate::fit::fit;
 use crate::netlist::netlist;
 use ix_device::Device;
-use ix_rec::{Items, Phys};
+use ix_rec::{FlatCell, Items, Phys};
 use std::alloc::Global;
 
 /// The physical netlist of cells that have no nets: each cell, in order, is on the first BEL, by
@@ -25,7 +24,7 @@ use std::alloc::Global;
 /// `TooFewBels` exactly where a type has more cells than the BELs that admit it, for the first such
 /// type by first cell; `NoSite` exactly where no type has, and first fit stops at this cell;
 /// `Memory`.
-pub fn first_fit(alloc: Global, device: &Device, cells: &Items<Cell>) -> Result<Phys, FitFault>
+pub fn first_fit(alloc: Global, device: &Device, cells: &Items<FlatCell>) -> Result<Phys, FitFault>
     ensures fitted { IfOk result (IsFitted device.now cells.now) }
     ensures err { IfErr result (IsFitFault device.now cells.now) }
     ensures named { (names : List Text) → DeviceNamed (length names) device.now

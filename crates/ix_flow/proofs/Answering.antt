@@ -8,7 +8,7 @@ use Rattle.ix_message.specs.Shape.{Struct, Text}
 use Rattle.ix_rec.specs.declared.device.DeviceRec.{DeviceRec}
 use Rattle.ix_strings.specs.Names.{AllDiffer, KeepsNumbers}
 use Rattle.ix_device_read.specs.Named.{DeviceNamed}
-use Rattle.ix_first_fit.specs.declared.cell.Cell.{Cell}
+use Rattle.ix_rec.specs.declared.flow.FlatCell.{FlatCell}
 use Rattle.ix_first_fit.specs.Fit.{IsStuck}
 use Rattle.ix_first_fit.specs.Fit.{IsTooFew}
 use Rattle.ix_first_fit.specs.Answers.{IsFitted}
@@ -35,19 +35,25 @@ use Rattle.ix_job.specs.Job.{Outcome}
 use Rattle.ix_job.specs.Chain.{Meets}
 use Rattle.ix_job.specs.declared.stop.Stop.{Stop}
 use Rattle.ix_job.specs.declared.stop.Stop.TheVariants.{Refused, Memory as NoMemory}
+use Rattle.ix_rec.specs.declared.flow.Flat.{Flat}
+use Rattle.ix_rec.specs.declared.netlist.NetlistRec.{NetlistRec}
+use Rattle.ix_logic_read.specs.Record.{netlist_record, IsNetlistNamed}
+use Rattle.ix_flat.specs.Range.{IsInRange, IsNamed}
+use Rattle.ix_flat.specs.Whole.{IsWhole}
+use Rattle.ix_hierarchy.specs.Broken.{IsBroken, IsFlattened}
 use Rattle.ix_flow.specs.Answer.{NamedDevice, rule_of, device_in, design_in, placed, written}
-use Rattle.ix_flow.specs.Answer.{implemented}
-use Rattle.ix_flow.specs.Named.{named_device, named_cells, TellsUnread}
+use Rattle.ix_flow.specs.Answer.{flattened, implemented}
+use Rattle.ix_flow.specs.Named.{named_device, named_design, named_flat, named_cells, TellsUnread}
 use Rattle.ix_first_fit.specs.Laws.{FitsHaveOwnPlaces}
 use Rattle.ix_flow.proofs.MoreNames.{more_device}
 
 -- the name of the cell where first fit stops
-pub stuck_named : (names : List Text) (rec : DeviceRec) (cells : List Cell) (k : ℕ) (c : Cell)
+pub stuck_named : (names : List Text) (rec : DeviceRec) (cells : List FlatCell) (k : ℕ) (c : FlatCell)
     (text : Text) (s : IsStuck rec cells k) → slice_get cells k ≡ Some c
     → slice_get names c.name ≡ Some text
     → slice_get names s.cell.name ≡ Some text
 stuck_named names rec cells k c text s at told =
-    ap (λ (x : Cell). slice_get names x.name) (same_Some s.cell c (sym s.at ∙ at)) ∙ told
+    ap (λ (x : FlatCell). slice_get names x.name) (same_Some s.cell c (sym s.at ∙ at)) ∙ told
 
 -- where each name keeps its number, there are no fewer names
 no_fewer : (old new : List Text) → KeepsNumbers old new → length old ≤ length new
@@ -105,14 +111,39 @@ pub unread_device : (all : Segments) (stop : Stop) → TellsUnread Device device
 unread_device all (Refused report) h = (h.0, h.1, inl h.2, h.3)
 unread_device all NoMemory h = tt
 
--- what is told of a design that can't be read, and of one that isn't in first form
+-- the same of a design
 pub unread_design : (names : List Text) (d : NamedDevice) (all : Segments) (stop : Stop)
-    → TellsUnread Design netlist all stop → Meets (named_cells names) (design_in d all) (Err stop)
-unread_design names d all (Refused report) h =
-    inl record { rule = h.0; place = h.1; broken = h.2; report_is = h.3 }
+    → TellsUnread Design netlist all stop → Meets (named_design names) (design_in d all) (Err stop)
+unread_design names d all (Refused report) h = h
 unread_design names d all NoMemory h = tt
 
-pub too_few_told : (rec : DeviceRec) (names : List Text) (cells : List Cell) (kind n bels : ℕ)
+pub design_told : (d : NamedDevice) (all : Segments) (names : List Text) (rec : NetlistRec)
+    → KeepsNumbers d.names names → AllDiffer names
+    → reading_in_segments netlist all ≡ Ok (netlist_record names rec) → IsNetlistNamed names rec
+    → design_in d all (Ok (named_design names rec))
+design_told d all names rec keeps differ reads named =
+    record { keeps = keeps; differ = differ; reads = reads; named = named }
+
+pub flat_told : (rec : DeviceRec) (old names : List Text) (design : NetlistRec) (flat : Flat)
+    → KeepsNumbers old names → AllDiffer names → IsFlattened names rec design flat
+    → IsInRange rec flat → IsNamed (length names) flat → IsWhole names rec flat
+    → flattened rec (named_design old design) (Ok (named_flat names flat))
+flat_told rec old names design flat keeps differ is range named whole = record {
+  keeps = keeps;
+  differ = differ;
+  flattened = is;
+  range = range;
+  named = named;
+  whole = whole;
+}
+
+pub broken_told : (rec : DeviceRec) (old names : List Text) (design : NetlistRec) (rule : Rule)
+    (word : Text) → KeepsNumbers old names → IsBroken names rec design rule word
+    → flattened rec (named_design old design) (Err (Bad Design rule (places.Named word)))
+broken_told rec old names design rule word keeps is =
+    (rule, word, record { names = names; keeps = keeps; broken = is }, refl)
+
+pub too_few_told : (rec : DeviceRec) (names : List Text) (cells : List FlatCell) (kind n bels : ℕ)
     (text : Text) → IsTooFew rec cells kind n bels → slice_get names kind ≡ Some text
     → placed rec (named_cells names cells) (Err (TooFewBels text n bels))
 too_few_told rec names cells kind n bels text few is =
@@ -127,18 +158,18 @@ too_few_told rec names cells kind n bels text few is =
       report_is = refl;
     }
 
-pub no_site_told : (rec : DeviceRec) (names : List Text) (cells : List Cell) (k : ℕ) (text : Text)
+pub no_site_told : (rec : DeviceRec) (names : List Text) (cells : List FlatCell) (k : ℕ) (text : Text)
     (s : IsStuck rec cells k) → slice_get names s.cell.name ≡ Some text
     → placed rec (named_cells names cells) (Err (NoSite text))
 no_site_told rec names cells k text s is =
     inr record { place = k; cell = text; stuck = s; cell_is = is; report_is = refl }
 
-pub placed_told : FitsHaveOwnPlaces → (rec : DeviceRec) (names : List Text) (cells : List Cell)
+pub placed_told : FitsHaveOwnPlaces → (rec : DeviceRec) (names : List Text) (cells : List FlatCell)
     (phys : Phys) → IsFitted rec cells phys → placed rec (named_cells names cells) (Ok phys)
 placed_told own_places rec names cells phys fitted =
     record { fitted = fitted; own = own_places rec cells phys fitted }
 
-pub written_told : (names : List Text) (cells : List Cell) (phys : Phys) (bytes : List ℕ)
+pub written_told : (names : List Text) (cells : List FlatCell) (phys : Phys) (bytes : List ℕ)
     (outcome : Outcome) → is_too_long phys_netlist (phys_record names phys) ≡ false
     → bytes ≡ encoding phys_netlist (phys_record names phys)
     → reading phys_netlist bytes ≡ Ok (phys_record names phys)

@@ -1,7 +1,7 @@
 -- What status 0 says, from a run of the job.
 use Rattle.std.proofs.Common.{◌≡◌, ◌∙◌, refl, ap, sym, subst, inl, inr, ◌⊎◌, ℕ, zero, suc}
 use Rattle.std.proofs.Common.{true, false, List, [], ◌∷◌, length, map, slice_get, Option}
-use Rattle.std.proofs.Common.{Some, None, option_map, slice_index_or, Result, Ok, Err}
+use Rattle.std.proofs.Common.{Some, None, option_map, option_and_then, Result, Ok, Err}
 use Rattle.ix_rec.specs.declared.device.DeviceRec.{DeviceRec}
 use Rattle.ix_rec.specs.declared.phys.CellPlacement.{CellPlacement}
 use Rattle.ix_rec.specs.declared.phys.Phys.{Phys}
@@ -10,9 +10,18 @@ use Rattle.ix_report.specs.declared.report.Report.TheVariants as a_report
 use Rattle.ix_message.specs.Shape.{Text}
 use Rattle.ix_shelf.specs.Shelf.{Files}
 use Rattle.ix_shelf.specs.declared.shelf.Failed.{Failed}
-use Rattle.ix_device.specs.Elements.{differ}
-use Rattle.ix_first_form.specs.FirstCells.{cell_seen}
-use Rattle.ix_first_fit.specs.declared.cell.Cell.{Cell}
+use Rattle.ix_rec.specs.declared.flow.Flat.{Flat}
+use Rattle.ix_rec.specs.declared.flow.FlatCell.{FlatCell}
+use Rattle.ix_hierarchy.specs.FlatDesign.{cell_texts}
+use Rattle.std.specs.FinMap.{get, get-empty}
+use Rattle.ix_rec.specs.Maps.{pin_order}
+use Rattle.ix_message.specs.Message.{reading}
+use Rattle.ix_message.specs.Phys.{phys_netlist}
+use Rattle.ix_phys_write.specs.Record.{phys_record}
+use Rattle.ix_flat.specs.Range.{IsInRange}
+use Rattle.ix_flat.specs.Whole.{AllDiffer, IsWhole}
+use Rattle.ix_belmap.specs.declared.ports.Fixing.{Fixing}
+use Rattle.ix_belmap.specs.Pins.{fixings, IsFixed}
 use Rattle.ix_first_fit.specs.declared.cell.Spot.{Spot}
 use Rattle.ix_first_fit.specs.Spots.{admits}
 use Rattle.ix_first_fit.specs.Netlist.{IsPinMap}
@@ -25,12 +34,16 @@ use Rattle.ix_flow.specs.declared.status.Status.{Status}
 use Rattle.ix_flow.specs.declared.status.Status.TheVariants as stat
 use Rattle.ix_flow.specs.Words.{Flow}
 use Rattle.ix_flow.specs.Status.{status_of}
-use Rattle.ix_flow.specs.Answer.{NamedDevice, NamedCells, IsPlaced, IsWritten, answer}
+use Rattle.ix_flow.specs.Answer.{IsValid}
+use Rattle.ix_flow.specs.Answer.{NamedDevice, NamedDesign, NamedFlat, NamedCells, IsFlatDesign}
+use Rattle.ix_flow.specs.Answer.{IsUnconnected, IsPlaced, IsWritten, cells_in, answer}
 use Rattle.ix_flow.specs.Answer.{IsFlowOutcome}
 use Rattle.ix_flow.specs.Run.{job_for, IsRun, ended}
 use Rattle.ix_flow.specs.Implements.{NamesPlace, KeepsNames, KeepsPlaces, placed_texts, Implements}
-use Rattle.ix_flow.specs.Implements.{HasImplemented, IsImplemented}
+use Rattle.ix_flow.specs.Implements.{KeepsDesign, HasImplemented, IsImplemented}
 use Rattle.ix_flow.proofs.Outputs.{answer_refuses}
+use Rattle.ix_fit_legal.specs.Laws.{FitsAreLegal}
+use Rattle.ix_flow.proofs.Unconnected.{NoPin, no_nets, no_tables, are_plain}
 
 -- a report of status 0 is of a job that is done
 is_of_done : (report : Report) → status_of report ≡ stat.Done → is_done report ≡ true
@@ -91,10 +104,10 @@ not_refused : (report : Report) → is_done report ≡ true → is_done report �
 not_refused report done refused = let bad : true ≡ false = sym done ∙ refused in cc
 
 -- what holds of each cell with its place and its placement gives equal lists
-same_maps : {A : Type 0} (f : CellPlacement → A) (g : Cell → A) (cells : List Cell)
+same_maps : {A : Type 0} (f : CellPlacement → A) (g : FlatCell → A) (cells : List FlatCell)
     (places : List Spot) (ms : List CellPlacement) → length ms ≡ length cells
     → length places ≡ length cells
-    → ((k : ℕ) (c : Cell) (p : Spot) (m : CellPlacement) → slice_get cells k ≡ Some c
+    → ((k : ℕ) (c : FlatCell) (p : Spot) (m : CellPlacement) → slice_get cells k ≡ Some c
     → slice_get places k ≡ Some p → slice_get ms k ≡ Some m → f m ≡ g c)
     → map f ms ≡ map g cells
 same_maps f g [] places [] h l each = refl
@@ -111,9 +124,9 @@ same_maps f g (c ∷ cs) (p ∷ ps) (m ∷ ms) h l each =
     by_suc e = cc
 
 -- what holds of each cell with its place and its placement holds of each placement with its place
-each_placement : (P : CellPlacement → Spot → Type 0) (cells : List Cell) (places : List Spot)
+each_placement : (P : CellPlacement → Spot → Type 0) (cells : List FlatCell) (places : List Spot)
     (ms : List CellPlacement) → length ms ≡ length cells
-    → ((k : ℕ) (c : Cell) (p : Spot) (m : CellPlacement) → slice_get cells k ≡ Some c
+    → ((k : ℕ) (c : FlatCell) (p : Spot) (m : CellPlacement) → slice_get cells k ≡ Some c
     → slice_get places k ≡ Some p → slice_get ms k ≡ Some m → P m p)
     → (k : ℕ) (m : CellPlacement) (p : Spot) → slice_get ms k ≡ Some m → slice_get places k ≡ Some p
     → P m p
@@ -130,7 +143,7 @@ each_placement P (c ∷ cs) (q ∷ ps) (n ∷ ms) h each (suc k) m p at_m at_p =
     by_suc e = cc
 
 -- the netlist of a design's cells implements it
-keeps_names : (rec : DeviceRec) (cells : List Cell) (phys : Phys) → IsPlaced rec cells phys
+keeps_names : (rec : DeviceRec) (cells : List FlatCell) (phys : Phys) → IsPlaced rec cells phys
     → (own : HasOwnPlaces rec cells phys) → KeepsNames rec phys own.places
 keeps_names rec cells phys placed own = record {
   count = own.places_count ∙ sym own.placements_count;
@@ -140,7 +153,7 @@ keeps_names rec cells phys placed own = record {
   properties = placed.fitted.netlist.properties;
 }
   where
-    names_place : (rec : DeviceRec) (c : Cell) (p : Spot) (m : CellPlacement)
+    names_place : (rec : DeviceRec) (c : FlatCell) (p : Spot) (m : CellPlacement)
         → IsOnPlace rec c p m → NamesPlace rec m p
     names_place rec c p m on = record {
       site = on.site;
@@ -148,11 +161,11 @@ keeps_names rec cells phys placed own = record {
       pins = subst (λ (ty : ℕ). IsPinMap rec ty p m.bel m.pin_map) (sym on.ty) on.pins;
     }
 
-keeps_places : (rec : DeviceRec) (cells : List Cell) (phys : Phys)
-    (own : HasOwnPlaces rec cells phys) → differ (map (λ c. c.name) cells) ≡ true
+keeps_places : (rec : DeviceRec) (cells : List FlatCell) (phys : Phys)
+    (own : HasOwnPlaces rec cells phys) → AllDiffer (map (λ c. c.name) cells)
     → KeepsPlaces rec phys own.places
 keeps_places rec cells phys own names_differ = record {
-  once = subst (λ (xs : List ℕ). differ xs ≡ true)
+  once = subst AllDiffer
       (sym (same_maps (λ m. m.cell_name) (λ c. c.name) cells own.places phys.placements
       own.placements_count own.places_count
       (λ k c p m a b e. let on : IsOnPlace rec c p m = own.each k c p m a b e in on.cell_name)))
@@ -166,30 +179,67 @@ keeps_places rec cells phys own names_differ = record {
   one_instance = own.sites_differ;
 }
 
-same_texts : (rec : DeviceRec) (names : List Text) (c : Cell) (p : Spot) (m : CellPlacement)
-    → IsOnPlace rec c p m → placed_texts names m ≡ cell_seen names c
+same_texts : (rec : DeviceRec) (names : List Text) (c : FlatCell) (p : Spot) (m : CellPlacement)
+    → IsOnPlace rec c p m → placed_texts names m ≡ cell_texts names c
 same_texts rec names c p m on =
-    ap (λ (n : ℕ). (slice_index_or names n [], slice_index_or names m.ty [])) on.cell_name
-    ∙ ap (λ (n : ℕ). (slice_index_or names c.name [], slice_index_or names n [])) on.ty
+    ap (λ (n : ℕ). option_and_then (λ name. option_map (λ ty. (name, ty)) (slice_get names m.ty))
+    (slice_get names n)) on.cell_name
+    ∙ ap (λ (n : ℕ). option_and_then (λ name. option_map (λ ty. (name, ty)) (slice_get names n))
+    (slice_get names c.name)) on.ty
 
-has_cells : (rec : DeviceRec) (names : List Text) (cells : List Cell) (phys : Phys)
-    → HasOwnPlaces rec cells phys → map (placed_texts names) phys.placements ≡ map
-    (cell_seen names) cells
+has_cells : (rec : DeviceRec) (names : List Text) (cells : List FlatCell) (phys : Phys)
+    → HasOwnPlaces rec cells phys
+    → map (placed_texts names) phys.placements ≡ map (cell_texts names) cells
 has_cells rec names cells phys own =
-    same_maps (placed_texts names) (cell_seen names) cells own.places phys.placements
+    same_maps (placed_texts names) (cell_texts names) cells own.places phys.placements
     own.placements_count own.places_count
     (λ k c p m a b e. same_texts rec names c p m (own.each k c p m a b e))
 
-implements : (device design : Content) (outcome : Outcome) → answer device design (Ok outcome)
+-- what is extracted is the flat design, where that is unconnected
+keeps_design : (rec : DeviceRec) (names : List Text) (before flat : Flat) (all : List Fixing)
+    (phys : Phys) → HasOwnPlaces rec flat.cells phys → IsUnconnected flat
+    → IsFixed before all flat → IsInRange rec before → IsWhole names rec before
+    → KeepsDesign names flat phys
+keeps_design rec names before flat all phys own alone fixed range whole =
+    let none : NoPin before =
+    λ cell pin. ap (λ m. get m (cell, pin)) (sym fixed.pins ∙ alone.no_pin)
+    ∙ get-empty pin_order (cell, pin) in record {
+      e1 = has_cells rec names flat.cells phys own;
+      e1_sites = alone.none_fixed;
+      e2 = alone.no_pin;
+      e2_nets = fixed.nets ∙ no_nets names rec before none whole;
+      e3 = λ cell. ap (λ m. get m cell) fixed.tables
+          ∙ no_tables names rec before none range.numbers whole cell;
+    }
+
+implements : (law : FitsAreLegal) → (device design : Content) (outcome : Outcome) → answer device design (Ok outcome)
     → (output : List ℕ) × (outcome.outputs ≡ output ∷ []) × Implements device design output
-implements device design outcome h =
+implements law device design outcome h =
     let d : NamedDevice = h.2.0 in
     let rest = h.2.2 in
-    let c : NamedCells = rest.2.0 in
-    let cells = rest.2.1 in
-    let phys : Phys = rest.2.2.0 in
-    let placed : IsPlaced d.rec c.cells phys = rest.2.2.1 in
-    let written : IsWritten c phys outcome = rest.2.2.2 in (
+    let read : NamedDesign = rest.2.0 in
+    let c : NamedCells = rest.2.2.0 in
+    let cells : cells_in d.rec read (Ok c) = rest.2.2.1 in
+    let f : NamedFlat = cells.0 in
+    let is_flat : IsFlatDesign d.rec read f = cells.1 in
+    let flat : Flat = cells.2.0 in
+    let fixed : IsFixed f.flat (fixings f.names d.rec read.rec) flat = cells.2.1 in
+    let alone : IsUnconnected flat = cells.2.2.0 in
+    let same : c ≡ record { names = f.names; cells = flat.cells } = cells.2.2.1 in
+    let phys : Phys = rest.2.2.2.0 in
+    let placed_c : IsPlaced d.rec c.cells phys = rest.2.2.2.1 in
+    let placed : IsPlaced d.rec flat.cells phys =
+    subst (λ (xs : List FlatCell). IsPlaced d.rec xs phys) (ap (λ (x : NamedCells). x.cells) same)
+    placed_c in
+    let written : IsWritten c phys outcome = rest.2.2.2.2 in
+    let decodes : reading phys_netlist written.bytes ≡ Ok (phys_record f.names phys) =
+    written.decodes ∙ ap (λ (x : NamedCells). Ok (phys_record x.names phys)) same in
+    let names_differ : AllDiffer (map (λ cell. cell.name) flat.cells) =
+    subst (λ (xs : List FlatCell). AllDiffer (map (λ cell. cell.name) xs)) (sym fixed.cells)
+    is_flat.whole.cells_differ in
+    let valid : IsValid h.0 d = h.2.1 in
+    let none : NoPin f.flat = λ cell pin. ap (λ m. get m (cell, pin))
+    (sym fixed.pins ∙ alone.no_pin) ∙ get-empty pin_order (cell, pin) in (
       written.bytes,
       written.outputs_are,
       record {
@@ -199,27 +249,33 @@ implements device design outcome h =
         valid = h.2.1;
         design_segments = rest.0;
         design_opens = rest.1;
-        in_form = cells.in_form;
-        names = c.names;
-        keeps = cells.keeps;
+        design_rec = read;
+        design_read = rest.2.1;
+        flattened = f;
+        is_flat = is_flat;
+        flat = flat;
+        is_pinned = fixed;
         phys = phys;
-        decodes = written.decodes;
+        decodes = decodes;
         places = placed.own.places;
-        l1_l3 = keeps_names d.rec c.cells phys placed placed.own;
-        l2 = keeps_places d.rec c.cells phys placed.own cells.first.differ;
-        e1 = has_cells d.rec c.names c.cells phys placed.own ∙ cells.cells_are;
+        l1_l3 = keeps_names d.rec flat.cells phys placed placed.own;
+        l2 = keeps_places d.rec flat.cells phys placed.own names_differ;
+        legal = law f.names d.rec flat.cells phys (are_plain f.names d.rec f.flat flat
+            valid.valid none is_flat.whole fixed.cells) placed.fitted;
+        e1_e3 = keeps_design d.rec f.names f.flat flat (fixings f.names d.rec read.rec) phys
+            placed.own alone fixed is_flat.range is_flat.whole;
       },
     )
 
 -- a run that ends done was answered, and not refused
-from_outcome : (flow : Flow) (before after : Outside) (device design : Content) (outcome : Outcome)
+from_outcome : (law : FitsAreLegal) → (flow : Flow) (before after : Outside) (device design : Content) (outcome : Outcome)
     → comes_to (answer device design) outcome → is_done outcome.report ≡ true
     → ((files : Files) → before.files ≡ Some files
     → AreContents files (flow.device ∷ flow.design ∷ []) (device ∷ design ∷ []))
     → after.files ≡ option_map (with_files (flow.routed ∷ []) outcome.outputs) before.files
     → HasImplemented flow before after
-from_outcome flow before after device design outcome (inl ok) done read written =
-    let made = implements device design outcome ok in
+from_outcome law flow before after device design outcome (inl ok) done read written =
+    let made = implements law device design outcome ok in
     record {
       device = device;
       design = design;
@@ -229,34 +285,34 @@ from_outcome flow before after device design outcome (inl ok) done read written 
           (with_files (flow.routed ∷ []) outputs) before.files) made.1 written;
       implements = made.2;
     }
-from_outcome flow before after device design outcome (inr refusal) done read written =
+from_outcome law flow before after device design outcome (inr refusal) done read written =
     absurd (not_refused outcome.report done
     (answer_refuses device design outcome.report refusal.0))
 
-from_contents : (flow : Flow) (before after : Outside) (contents : List Content) (outcome : Outcome)
+from_contents : (law : FitsAreLegal) → (flow : Flow) (before after : Outside) (contents : List Content) (outcome : Outcome)
     → IsFlowOutcome contents outcome → is_done outcome.report ≡ true
     → ((files : Files) → before.files ≡ Some files
     → AreContents files (flow.device ∷ flow.design ∷ []) contents)
     → after.files ≡ option_map (with_files (flow.routed ∷ []) outcome.outputs) before.files
     → HasImplemented flow before after
-from_contents flow before after [] outcome is done read written = absurd is
-from_contents flow before after (device ∷ []) outcome is done read written = absurd is
-from_contents flow before after (device ∷ design ∷ []) outcome is done read written =
-    from_outcome flow before after device design outcome is done read written
-from_contents flow before after (device ∷ design ∷ other ∷ more) outcome is done read written =
+from_contents law flow before after [] outcome is done read written = absurd is
+from_contents law flow before after (device ∷ []) outcome is done read written = absurd is
+from_contents law flow before after (device ∷ design ∷ []) outcome is done read written =
+    from_outcome law flow before after device design outcome is done read written
+from_contents law flow before after (device ∷ design ∷ other ∷ more) outcome is done read written =
     absurd is
 
-by_ending : (flow : Flow) (before after : Outside) (report : Report)
+by_ending : (law : FitsAreLegal) → (flow : Flow) (before after : Outside) (report : Report)
     → IsEnding IsFlowOutcome (job_for flow) before after report → is_done report ≡ true
     → HasImplemented flow before after
-by_ending flow before after report (inl answered) done =
-    from_contents flow before after answered.has.contents answered.has.outcome answered.has.is
+by_ending law flow before after report (inl answered) done =
+    from_contents law flow before after answered.has.contents answered.has.outcome answered.has.is
     (sym (ap is_done answered.report_is) ∙ done) answered.has.read answered.written
-by_ending flow before after report (inr (inl unread)) done =
+by_ending law flow before after report (inr (inl unread)) done =
     absurd (not_refused report done (ap is_done unread.report_is))
-by_ending flow before after report (inr (inr (inl unwritten))) done =
+by_ending law flow before after report (inr (inr (inl unwritten))) done =
     absurd (not_refused report done (ap is_done unwritten.report_is))
-by_ending flow before after report (inr (inr (inr starved))) done =
+by_ending law flow before after report (inr (inr (inr starved))) done =
     absurd (not_refused report done (ap is_done starved.report_is))
 
 -- the status of a job that is done, whether or not its line was put
@@ -267,22 +323,22 @@ done_report : (report : Report) → IsOfDone (status_of report) → is_done repo
 done_report report (inl done) = is_of_done report done
 done_report report (inr put) = absurd (no_put_fault report put)
 
-by_answered : (flow : Flow) (before after : Outside) (answered : Result Report Failed)
+by_answered : (law : FitsAreLegal) → (flow : Flow) (before after : Outside) (answered : Result Report Failed)
     → RunsJob IsFlowOutcome (job_for flow) before after answered → IsOfDone (ended answered)
     → HasImplemented flow before after
-by_answered flow before after (Ok report) runs done =
-    by_ending flow before after report runs.ending (done_report report done)
-by_answered flow before after (Err failed) runs done =
-    by_ending flow before after runs.0 runs.1.ending runs.1.told.0
+by_answered law flow before after (Ok report) runs done =
+    by_ending law flow before after report runs.ending (done_report report done)
+by_answered law flow before after (Err failed) runs done =
+    by_ending law flow before after runs.0 runs.1.ending runs.1.told.0
 
-pub run_implements : (words : Option Flow) (before after : Outside) (status : Status)
+pub run_implements : (law : FitsAreLegal) → (words : Option Flow) (before after : Outside) (status : Status)
     → IsRun words before after status → IsOfDone status → IsImplemented words before after
-run_implements None before after status run (inl done) = let bad : stat.Usage ≡ stat.Done =
+run_implements law None before after status run (inl done) = let bad : stat.Usage ≡ stat.Done =
     sym run.usage ∙ done in cc
-run_implements None before after status run (inr put) = let bad : stat.Usage ≡ stat.PutFault =
+run_implements law None before after status run (inr put) = let bad : stat.Usage ≡ stat.PutFault =
     sym run.usage ∙ put in cc
-run_implements (Some flow) before after status run done =
-    by_answered flow before after run.answered run.runs (subst IsOfDone run.status_is done)
+run_implements law (Some flow) before after status run done =
+    by_answered law flow before after run.answered run.runs (subst IsOfDone run.status_is done)
 
 pub usage_not_done : IsOfDone stat.Usage → ⊥
 usage_not_done (inl done) = let bad : stat.Usage ≡ stat.Done = done in cc

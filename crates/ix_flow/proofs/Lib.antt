@@ -3,3 +3,5 @@ pub mod Outputs
 pub mod Implementing
 pub mod Answering
 pub mod MoreNames
+pub mod Ports
+pub mod Unconnected

@@ -16,7 +16,11 @@ use Rattle.ix_report.specs.declared.report.Report.TheVariants as a_report
 use Rattle.ix_job.specs.Outside.{writes, is_done}
 use Rattle.ix_job.specs.Chain.{Step, and_then, Meets}
 use Rattle.ix_job.specs.Job.{Content, Outcome, HasOutputs}
-use Rattle.ix_flow.specs.Answer.{NamedDevice, NamedCells, opens, device_in, design_in, placed}
+use Rattle.std.proofs.Common.{List}
+use Rattle.ix_message.specs.Shape.{Text}
+use Rattle.ix_rec.specs.declared.flow.Flat.{Flat}
+use Rattle.ix_flow.specs.Answer.{NamedDevice, NamedDesign, NamedFlat, NamedCells, opens, device_in}
+use Rattle.ix_flow.specs.Answer.{design_in, flattened, pinned, unconnected, cells_in, placed}
 use Rattle.ix_flow.specs.Answer.{written, netlist_for, answer_for, answer}
 
 abbrev IsRefusal : Report → Type 0
@@ -69,8 +73,28 @@ device_refuses all report h = ap is_done h.3
 
 design_refuses : (d : NamedDevice) (all : Segments) (report : Report) → design_in d all (Err report)
     → IsRefusal report
-design_refuses d all report (inl h) = ap is_done h.report_is
-design_refuses d all report (inr h) = ap is_done h.report_is
+design_refuses d all report h = ap is_done h.3
+
+flattened_refuses : (rec : DeviceRec) (design : NamedDesign) (report : Report)
+    → flattened rec design (Err report) → IsRefusal report
+flattened_refuses rec design report h = ap is_done h.3
+
+pinned_refuses : (rec : DeviceRec) (design : NamedDesign) (f : NamedFlat) (report : Report)
+    → pinned rec design f (Err report) → IsRefusal report
+pinned_refuses rec design f report h = ap is_done h.3
+
+unconnected_refuses : (names : List Text) (flat : Flat) (report : Report)
+    → unconnected names flat (Err report) → IsRefusal report
+unconnected_refuses names flat report h = ap is_done h.1
+
+cells_refuse : (rec : DeviceRec) (design : NamedDesign) (report : Report)
+    → cells_in rec design (Err report) → IsRefusal report
+cells_refuse rec design report h =
+    refuses (flattened rec design)
+    (λ f. and_then (pinned rec design f) (λ flat. unconnected f.names flat)) report
+    (flattened_refuses rec design report)
+    (λ f k. refuses (pinned rec design f) (λ flat. unconnected f.names flat) report
+    (pinned_refuses rec design f report) (λ flat. unconnected_refuses f.names flat report) k) h
 
 placed_refuses : (rec : DeviceRec) (c : NamedCells) (report : Report) → placed rec c (Err report)
     → IsRefusal report
@@ -89,10 +113,15 @@ netlist_refuses rec c report h = refuses (placed rec c) (λ phys. written c phys
 answer_for_refuses : (d : NamedDevice) (design : Content) (report : Report)
     → answer_for d design (Err report) → IsRefusal report
 answer_for_refuses d design report h =
-    refuses (opens Design design) (λ all. and_then (design_in d all) (λ c. netlist_for d.rec c))
+    refuses (opens Design design)
+    (λ all. and_then (design_in d all) (λ read. and_then (cells_in d.rec read)
+    (λ c. netlist_for d.rec c)))
     report (opens_refuses Design design report)
-    (λ all k. refuses (design_in d all) (λ c. netlist_for d.rec c) report
-    (design_refuses d all report) (λ c. netlist_refuses d.rec c report) k) h
+    (λ all k. refuses (design_in d all) (λ read. and_then (cells_in d.rec read)
+    (λ c. netlist_for d.rec c)) report
+    (design_refuses d all report) (λ read l. refuses (cells_in d.rec read)
+    (λ c. netlist_for d.rec c) report (cells_refuse d.rec read report)
+    (λ c. netlist_refuses d.rec c report) l) k) h
 
 pub answer_refuses : (device design : Content) (report : Report) → answer device design (Err report)
     → IsRefusal report
@@ -114,10 +143,13 @@ answer_for_one : (d : NamedDevice) (design : Content) (outcome : Outcome)
     → answer_for d design (Ok outcome) → HasOne outcome
 answer_for_one d design outcome h =
     goes_on_to HasOne (opens Design design)
-    (λ all. and_then (design_in d all) (λ c. netlist_for d.rec c)) outcome
-    (λ all k. goes_on_to HasOne (design_in d all) (λ c. netlist_for d.rec c) outcome
-    (λ c l. goes_on_to HasOne (placed d.rec c) (λ phys. written c phys) outcome
-    (λ phys. written_one c phys outcome) l) k) h
+    (λ all. and_then (design_in d all) (λ read. and_then (cells_in d.rec read)
+    (λ c. netlist_for d.rec c))) outcome
+    (λ all k. goes_on_to HasOne (design_in d all) (λ read. and_then (cells_in d.rec read)
+    (λ c. netlist_for d.rec c)) outcome
+    (λ read l. goes_on_to HasOne (cells_in d.rec read) (λ c. netlist_for d.rec c) outcome
+    (λ c m. goes_on_to HasOne (placed d.rec c) (λ phys. written c phys) outcome
+    (λ phys. written_one c phys outcome) m) l) k) h
 
 pub answer_one : (device design : Content) (outcome : Outcome) → answer device design (Ok outcome)
     → HasOne outcome

@@ -1,7 +1,8 @@
 -- What `flow` answers to the contents of its two files, where nothing fails and memory doesn't run
 -- out.
-use Rattle.std.specs.Prelude.{◌≡◌, ◌⊎◌, ℕ, ◌^◌, true, false, nat_lt, List, [], ◌∷◌, length, map}
+use Rattle.std.specs.Prelude.{◌≡◌, ◌⊎◌, ℕ, ◌^◌, true, false, nat_lt, List, [], ◌∷◌, length}
 use Rattle.std.specs.Prelude.{slice_get, Result, Ok, Err, Some, None, if◌then◌else◌}
+use Rattle.std.specs.FinMap.{empty}
 use Rattle.ix_num.specs.declared.fault.FrameFault.{FrameFault}
 use Rattle.ix_num.specs.declared.fault.FrameRule.{FrameRule}
 use Rattle.ix_num.specs.declared.fault.FrameRule.TheVariants as framed_rule
@@ -33,9 +34,14 @@ use Rattle.ix_device_rules.specs.Rules.{first_broken}
 use Rattle.ix_job.specs.Job.{Content, Outcome}
 use Rattle.ix_job.specs.Chain.{Step, ◌>>=◌, comes_to}
 use Rattle.ix_phys_write.specs.Record.{phys_record}
-use Rattle.ix_first_form.specs.FirstForm.{is_first_form, cells_in}
-use Rattle.ix_first_form.specs.FirstCells.{cell_seen, AreFirst}
-use Rattle.ix_first_fit.specs.declared.cell.Cell.{Cell}
+use Rattle.ix_rec.specs.declared.flow.Flat.{Flat}
+use Rattle.ix_rec.specs.declared.flow.FlatCell.{FlatCell}
+use Rattle.ix_rec.specs.declared.netlist.NetlistRec.{NetlistRec}
+use Rattle.ix_logic_read.specs.Record.{netlist_record, IsNetlistNamed}
+use Rattle.ix_flat.specs.Range.{IsInRange, IsNamed}
+use Rattle.ix_flat.specs.Whole.{IsWhole}
+use Rattle.ix_hierarchy.specs.Broken.{IsBroken, IsFlattened}
+use Rattle.ix_belmap.specs.Pins.{fixings, IsFixed, IsBroken as BreaksPins}
 use Rattle.ix_first_fit.specs.Fit.{IsTooFew, IsStuck}
 use Rattle.ix_first_fit.specs.Answers.{IsFitted}
 use Rattle.ix_first_fit.specs.Laws.{HasOwnPlaces}
@@ -115,40 +121,78 @@ device_in all (Ok d) = IsValid all d
 device_in all (Err report) = (rule : Rule) × (place : Place) × BreaksDevice all rule place
     × (report ≡ Bad Device rule place)
 
--- The cells of a design. Their names and types are among more names, in which those of the device
--- have kept their numbers.
+-- A design, over more names.
+pub record NamedDesign : Type 0 where
+  pub names : List Text
+  pub rec : NetlistRec
+
+-- A design was read from segments. The device's names have kept their numbers, and no two names are
+-- alike.
+pub record IsDesignRead (d : NamedDevice) (all : Segments) (design : NamedDesign) : Type 0 where
+  pub keeps : KeepsNumbers d.names design.names
+  pub differ : AllDiffer design.names
+  pub reads : reading_in_segments netlist all ≡ Ok (netlist_record design.names design.rec)
+  pub named : IsNetlistNamed design.names design.rec
+
+abbrev pub design_in : NamedDevice → Segments → Step NamedDesign
+design_in d all (Ok design) = IsDesignRead d all design
+design_in d all (Err report) = (rule : Rule) × (place : Place)
+    × BreaksReading netlist all rule place × (report ≡ Bad Design rule place)
+
+-- A flat design, over more names.
+pub record NamedFlat : Type 0 where
+  pub names : List Text
+  pub flat : Flat
+
+-- The flat design of a design, which breaks no rule of designs. The names so far have kept their
+-- numbers, and no two are alike. Its numbers are in range and among the names, and it is whole.
+pub record IsFlatDesign (rec : DeviceRec) (design : NamedDesign) (f : NamedFlat) : Type 0 where
+  pub keeps : KeepsNumbers design.names f.names
+  pub differ : AllDiffer f.names
+  pub flattened : IsFlattened f.names rec design.rec f.flat
+  pub range : IsInRange rec f.flat
+  pub named : IsNamed (length f.names) f.flat
+  pub whole : IsWhole f.names rec f.flat
+
+-- The first rule of designs that a design breaks, and the name that is told. Flat names may be
+-- among the names by then.
+pub record BreaksDesign (rec : DeviceRec) (design : NamedDesign) (rule : Rule) (word : Text)
+    : Type 0 where
+  pub names : List Text
+  pub keeps : KeepsNumbers design.names names
+  pub broken : IsBroken names rec design.rec rule word
+
+abbrev pub flattened : DeviceRec → NamedDesign → Step NamedFlat
+flattened rec design (Ok f) = IsFlatDesign rec design f
+flattened rec design (Err report) = (rule : Rule) × (word : Text)
+    × BreaksDesign rec design rule word × (report ≡ Bad Design rule (places.Named word))
+
+-- its ports are fixed to the sites of their package pins, or P4 or P5 is broken
+abbrev pub pinned : DeviceRec → NamedDesign → NamedFlat → Step Flat
+pinned rec design f (Ok flat) = IsFixed f.flat (fixings f.names rec design.rec) flat
+pinned rec design f (Err report) = (rule : Rule) × (word : Text)
+    × BreaksPins f.names f.flat (fixings f.names rec design.rec) rule word
+    × (report ≡ Bad Design rule (places.Named word))
+
+-- no pin of it is on a net, and no port is fixed
+pub record IsUnconnected (flat : Flat) : Type 0 where
+  pub no_pin : flat.pins ≡ empty
+  pub none_fixed : flat.fixed ≡ empty
+
+-- The cells of a flat design, over its names.
 pub record NamedCells : Type 0 where
   pub names : List Text
-  pub cells : List Cell
+  pub cells : List FlatCell
 
--- a design in first form for a device, with its cells
-pub record AreCells (d : NamedDevice) (all : Segments) (c : NamedCells) : Type 0 where
-  pub in_form : is_first_form d.names d.rec all ≡ true
-  pub keeps : KeepsNumbers d.names c.names
-  pub cells_are : map (cell_seen c.names) c.cells ≡ cells_in all
-  pub first : AreFirst d.rec c.names c.cells
-
--- a design is refused for a rule that it breaks as it is read
-pub record IsUnreadable (all : Segments) (report : reports.Report) : Type 0 where
-  pub rule : Rule
-  pub place : Place
-  pub broken : BreaksReading netlist all rule place
-  pub report_is : report ≡ Bad Design rule place
-
--- or, as it isn't in first form, because nothing more is built yet
-pub record IsNotBuilt (d : NamedDevice) (all : Segments) (report : reports.Report) : Type 0 where
-  pub says : Value Datum netlist
-  pub read : reading_in_segments netlist all ≡ Ok says
-  pub no_form : is_first_form d.names d.rec all ≡ false
-  pub report_is : report ≡ NotBuilt Design
-
-abbrev pub design_in : NamedDevice → Segments → Step NamedCells
-design_in d all (Ok c) = AreCells d all c
-design_in d all (Err report) = IsUnreadable all report ⊎ IsNotBuilt d all report
+-- the cells of such a design; of another, nothing more is built yet
+abbrev pub unconnected : List Text → Flat → Step NamedCells
+unconnected names flat (Ok c) =
+    IsUnconnected flat × (c ≡ record { names = names; cells = flat.cells })
+unconnected names flat (Err report) = ¬ IsUnconnected flat × (report ≡ NotBuilt Design)
 
 -- The cells are placed by first fit, and this is their netlist: each cell is on a BEL of its own
 -- that admits its type, and each used site has one instance.
-pub record IsPlaced (rec : DeviceRec) (cells : List Cell) (phys : Phys) : Type 0 where
+pub record IsPlaced (rec : DeviceRec) (cells : List FlatCell) (phys : Phys) : Type 0 where
   pub fitted : IsFitted rec cells phys
   pub own : HasOwnPlaces rec cells phys
 
@@ -196,17 +240,24 @@ written c phys (Ok outcome) = IsWritten c phys outcome
 written c phys (Err report) = (is_too_long phys_netlist (netlist_of c phys) ≡ true)
     × (report ≡ TooLong)
 
--- The answer: the device is judged before the design, the cells of which are placed, and their
--- netlist is written.
+-- The answer: the device is judged before the design, which is flattened; its cells are placed, and
+-- their netlist is written.
 abbrev pub netlist_for : DeviceRec → NamedCells → Step Outcome
 netlist_for rec c = do
   phys ← placed rec c
   written c phys
 
+abbrev pub cells_in : DeviceRec → NamedDesign → Step NamedCells
+cells_in rec design = do
+  f ← flattened rec design
+  flat ← pinned rec design f
+  unconnected f.names flat
+
 abbrev pub answer_for : NamedDevice → (design : Content) → Step Outcome
 answer_for d design = do
   all ← opens Design design
-  c ← design_in d all
+  read ← design_in d all
+  c ← cells_in d.rec read
   netlist_for d.rec c
 
 abbrev pub answer : (device design : Content) → Step Outcome

@@ -1,28 +1,32 @@
--- What status 0 of `flow` says of the netlist that it wrote. Designs have no nets and no LUT cells
--- yet: so no rule on segments, on trees or on tables has anything to judge.
+-- What status 0 of `flow` says of the netlist that it wrote. No pin of the flat design is on a net
+-- yet, and so it has no LUT cell: no rule on segments, on trees or on tables has anything to judge.
 use Rattle.std.specs.Prelude.{◌≡◌, ℕ, List, [], ◌∷◌, length, map, slice_get, true, Option, Some}
-use Rattle.std.specs.Prelude.{None, option_map, slice_index_or, Ok}
+use Rattle.std.specs.Prelude.{None, option_map, option_and_then, Ok}
+use Rattle.std.specs.FinMap.{empty, get}
 use Rattle.ix_frame.specs.Segments.{Segments}
-use Rattle.ix_strings.specs.Names.{KeepsNumbers}
 use Rattle.ix_message.specs.Shape.{Text}
 use Rattle.ix_message.specs.Message.{reading}
 use Rattle.ix_message.specs.Phys.{phys_netlist}
 use Rattle.ix_rec.specs.declared.device.DeviceRec.{DeviceRec}
 use Rattle.ix_rec.specs.declared.phys.CellPlacement.{CellPlacement}
 use Rattle.ix_rec.specs.declared.phys.Phys.{Phys}
-use Rattle.ix_device.specs.Elements.{differ}
 use Rattle.ix_device.specs.Lookups.{name_of_site}
 use Rattle.ix_shelf.specs.Shelf.{Files, with_file}
 use Rattle.ix_job.specs.Outside.{Outside}
 use Rattle.ix_job.specs.Job.{Content, AreContents}
 use Rattle.ix_phys_write.specs.Record.{phys_record}
-use Rattle.ix_first_form.specs.FirstForm.{is_first_form, cells_in}
+use Rattle.ix_rec.specs.declared.flow.Flat.{Flat}
+use Rattle.ix_hierarchy.specs.FlatDesign.{cell_texts}
+use Rattle.ix_belmap.specs.Pins.{fixings, IsFixed}
 use Rattle.ix_first_fit.specs.declared.cell.Spot.{Spot}
 use Rattle.ix_first_fit.specs.Spots.{admits}
 use Rattle.ix_first_fit.specs.Netlist.{bel_name, used_sites, IsPinMap, AreInstances}
 use Rattle.ix_first_fit.specs.Laws.{Differ}
+use Rattle.ix_legal.specs.declared.level.Level.TheVariants.{Routed}
+use Rattle.ix_legal.specs.Legal.{Legal}
 use Rattle.ix_flow.specs.Words.{Flow}
-use Rattle.ix_flow.specs.Answer.{opened, NamedDevice, IsValid}
+use Rattle.ix_flow.specs.Answer.{opened, NamedDevice, IsValid, NamedDesign, IsDesignRead}
+use Rattle.ix_flow.specs.Answer.{NamedFlat, IsFlatDesign}
 
 -- Rules L1 and L3 at a placement: its site and its BEL are there, and this is the place that they
 -- name; its pin map is the device's for its cell type there, whole, so that each pin is there too.
@@ -43,7 +47,7 @@ pub record KeepsNames (rec : DeviceRec) (phys : Phys) (places : List Spot) : Typ
 -- Rule L2: each cell is placed once; each BEL has one cell, and admits it; each site that is used
 -- has one instance, of its own type, and no other site has one.
 pub record KeepsPlaces (rec : DeviceRec) (phys : Phys) (places : List Spot) : Type 0 where
-  pub once : differ (map (λ m. m.cell_name) phys.placements) ≡ true
+  pub once : Differ (map (λ m. m.cell_name) phys.placements)
   pub one_cell : Differ places
   pub admitted : (k : ℕ) (m : CellPlacement) (p : Spot) → slice_get phys.placements k ≡ Some m
       → slice_get places k ≡ Some p → admits rec m.ty p ≡ true
@@ -51,11 +55,22 @@ pub record KeepsPlaces (rec : DeviceRec) (phys : Phys) (places : List Spot) : Ty
   pub one_instance : Differ (used_sites places)
 
 -- the name and the type of a placed cell, as texts
-abbrev pub placed_texts : List Text → CellPlacement → Text × Text
-placed_texts names m = (slice_index_or names m.cell_name [], slice_index_or names m.ty [])
+abbrev pub placed_texts : List Text → CellPlacement → Option (Text × Text)
+placed_texts names m = option_and_then (λ name.
+    option_map (λ ty. (name, ty)) (slice_get names m.ty)) (slice_get names m.cell_name)
+
+-- Rules E1 to E3: what is extracted from the netlist is the flat design. The netlist has no nets
+-- and no tables, so no pin is on a net and no cell has a table there; the same holds of the flat
+-- design.
+pub record KeepsDesign (names : List Text) (flat : Flat) (phys : Phys) : Type 0 where
+  pub e1 : map (placed_texts names) phys.placements ≡ map (cell_texts names) flat.cells
+  pub e1_sites : flat.fixed ≡ empty
+  pub e2 : flat.pins ≡ empty
+  pub e2_nets : flat.nets ≡ []
+  pub e3 : (cell : ℕ) → get flat.tables cell ≡ None
 
 -- The netlist of a file implements the design of another on the device of a third: it breaks no
--- rule of the device, and the cells that are extracted from it are the design's (rule E1).
+-- rule of the device, and what is extracted from it is the flat design with its fixed ports.
 pub record Implements (device design : Content) (output : List ℕ) : Type 0 where
   pub device_segments : Segments
   pub device_opens : opened device ≡ Ok device_segments
@@ -63,15 +78,20 @@ pub record Implements (device design : Content) (output : List ℕ) : Type 0 whe
   pub valid : IsValid device_segments on
   pub design_segments : Segments
   pub design_opens : opened design ≡ Ok design_segments
-  pub in_form : is_first_form on.names on.rec design_segments ≡ true
-  pub names : List Text
-  pub keeps : KeepsNumbers on.names names
+  pub design_rec : NamedDesign
+  pub design_read : IsDesignRead on design_segments design_rec
+  pub flattened : NamedFlat
+  pub is_flat : IsFlatDesign on.rec design_rec flattened
+  pub flat : Flat
+  pub is_pinned : IsFixed flattened.flat (fixings flattened.names on.rec design_rec.rec) flat
   pub phys : Phys
-  pub decodes : reading phys_netlist output ≡ Ok (phys_record names phys)
+  pub decodes : reading phys_netlist output ≡ Ok (phys_record flattened.names phys)
   pub places : List Spot
   pub l1_l3 : KeepsNames on.rec phys places
   pub l2 : KeepsPlaces on.rec phys places
-  pub e1 : map (placed_texts names) phys.placements ≡ cells_in design_segments
+  -- it breaks none of the rules L1 to L10
+  pub legal : Legal Routed flattened.names on.rec phys
+  pub e1_e3 : KeepsDesign flattened.names flat phys
 
 -- The netlist was written, and no other file; it implements the design on the device.
 pub record HasImplemented (flow : Flow) (before after : Outside) : Type 0 where

@@ -1,7 +1,10 @@
 //! The answer to the bytes of a device and a design.
 
-ghost use Rattle.std.specs.Prelude.{◌≡◌, ◌+◌, ◌-◌, ◌^◌, ◌<◌, ◌≤◌, Ok, Err, Some, IfOk, IfErr, OnOk};
-ghost use Rattle.std.specs.Prelude.{[], ◌∷◌, length, slice_get, true, false};
+ghost use Rattle.std.specs.Prelude.{◌≡◌, ◌+◌, ◌-◌, ◌^◌, ◌<◌, ◌≤◌, ℕ};
+ghost use Rattle.std.specs.Prelude.{Ok, Err, Some, IfOk};
+ghost use Rattle.std.specs.Prelude.{[], ◌∷◌, List, length, slice_get};
+ghost use Rattle.std.specs.Prelude.{◌&&◌, nat_eq};
+ghost use Rattle.std.specs.FinMap.{len};
 ghost use Rattle.std.specs.List.{AllByRecursion};
 ghost use Rattle.ix_frame.specs.Result.{Finds};
 ghost use Rattle.ix_frame.specs.Views.{segments_of};
@@ -16,24 +19,34 @@ ghost use Rattle.ix_first_fit.specs.Named.{CellNamed};
 ghost use Rattle.ix_first_fit.specs.Answers.{IsFitFault};
 ghost use Rattle.ix_job.specs.Chain.{Meets};
 ghost use Rattle.ix_job.specs.Views.{content_seen, outcome_seen};
+ghost use Rattle.ix_strings.specs.Names.{KeepsNumbers};
+ghost use Rattle.ix_message.specs.Shape.{Text};
+ghost use Rattle.ix_logic_read.specs.Record.{IsNetlistNamed};
+ghost use Rattle.ix_hierarchy.specs.Fits.{NetlistFits};
 ghost use Rattle.ix_flow.specs.Answer.{rule_of, opened, opens, device_in, design_in, placed};
+ghost use Rattle.ix_flow.specs.Answer.{NamedDevice, NamedDesign, IsFlatDesign, flattened, pinned};
+ghost use Rattle.ix_flow.specs.Answer.{unconnected, cells_in};
 ghost use Rattle.ix_flow.specs.Answer.{written, netlist_for, answer_for, answer, implemented};
-ghost use Rattle.ix_flow.specs.Named.{named_device, named_cells, IsFaultNamed, IsReadable};
-ghost use Rattle.ix_flow.specs.Named.{TellsUnread};
+ghost use Rattle.ix_flow.specs.Named.{named_device, named_design, named_flat, named_cells};
+ghost use Rattle.ix_flow.specs.Named.{IsFaultNamed, TellsUnread};
 ghost use Rattle.ix_message.specs.Shape.{Struct};
 
+use ix_belmap::{PinFault, fixed_pins};
 use ix_capw::BuildFault;
 use ix_device::{Device, DeviceFault};
 use ix_device_read::read_device;
 use ix_first::number_of;
-use ix_first_fit::{Cell, FitFault, first_fit, fits_have_own_places};
-use ix_first_form::read_first_form;
+use ix_first_fit::{FitFault, first_fit, fits_have_own_places};
+use ix_flatten::{DesignFault, flatten};
 use ix_frame::Frame;
 use ix_job::{Content, Outcome, Stop};
 use ix_logic_read::read_netlist;
 use ix_num::{FrameRule, Memory, NameId};
 use ix_phys_write::write_phys;
-use ix_rec::{Bytes, DeviceRec, File, Items, Phys, Place, ReadFault, Rule, Word};
+use ix_read_laws::{read_devices_fit, read_netlists_fit};
+use ix_rec::{
+    Bytes, DeviceRec, File, Flat, FlatCell, Items, NetlistRec, Phys, Place, ReadFault, Rule, Word,
+};
 use ix_report::Report;
 use ix_shelf::MOST_BYTES;
 use ix_strings::Names;
@@ -143,35 +156,110 @@ fn valid_device(alloc: Global, frame: &Frame<'_>, names: &mut Names) -> Result<D
     }
 }
 
-/// Reads a design whole, so that the first rule that it breaks as it is read is told. Its record
-/// isn't kept: cells are taken from the frame again where the design is in first form.
-fn readable_design(alloc: Global, frame: &Frame<'_>) -> Result<(), Stop>
-    ensures { IsReadable (segments_of frame.now) result }
+/// Reads a design, whose names are added to the names.
+fn read_design(alloc: Global, frame: &Frame<'_>, names: &mut Names) -> Result<NetlistRec, Stop>
+    requires { length names.old + 2 ^ 28 + 66 < 2 ^ 32 - 1 }
+    ensures read { (d : NamedDevice) → d.names ≡ names.old
+        → Meets (named_design names.new) (design_in d (segments_of frame.now)) result }
+    ensures keeps { KeepsNumbers names.old names.new }
+    ensures most { length names.new ≤ length names.old + 2 ^ 28 + 65 }
 {
-    let mut names = Names::new(alloc);
-    match read_netlist(alloc, frame, &mut names) {
-        Ok(_) => Ok(()),
+    match read_netlist(alloc, frame, names) {
+        Ok(rec) => {
+            // That no two names are alike is what the table tells with their number.
+            let _count = names.len();
+            Ok(rec)
+        }
         Err(fault) => Err(reading_fault(File::Design, fault)),
     }
 }
 
-/// The cells of a design in first form, whose names are added to the names.
-fn first_cells(
+/// Flattens a design, whose flat names are added to the names.
+fn flat_design(
     alloc: Global,
-    frame: &Frame<'_>,
+    rec: &NetlistRec,
     device: &Device,
     names: &mut Names,
-) -> Result<Items<Cell>, Stop>
-    requires { length names.old + 2 ^ 22 < 2 ^ 32 - 1 }
-    ensures { Meets (named_cells names.new)
-        (design_in (named_device names.old device.now) (segments_of frame.now)) result }
+) -> Result<Flat, Stop>
+    requires design { IsNetlistNamed names.old rec.now }
+    requires device { DeviceNamed (length names.old) device.now }
+    requires few { length names.old + 2 ^ 29 < 2 ^ 32 - 1 }
+    ensures flat { Meets (named_flat names.new)
+        (flattened device.now (named_design names.old rec.now)) result }
+    ensures keeps { KeepsNumbers names.old names.new }
 {
-    readable_design(alloc, frame)?;
-    match read_first_form(alloc, frame, device, names) {
-        Ok(Some(cells)) => Ok(cells),
-        Ok(None) => Err(Stop::Refused(Report::NotBuilt(File::Design))),
-        Err(_) => Err(Stop::Memory),
+    read_netlists_fit();
+    read_devices_fit();
+    match flatten(alloc, rec, device, names) {
+        Ok(flat) => {
+            let _count = names.len();
+            Ok(flat)
+        }
+        Err(DesignFault::Broken(rule, word)) => {
+            Err(broken(File::Design, rule, Place::Named(word)))
+        }
+        Err(DesignFault::Memory) => Err(Stop::Memory),
     }
+}
+
+/// Fixes the ports of a flat design.
+fn pinned(
+    alloc: Global,
+    rec: &NetlistRec,
+    device: &Device,
+    flat: Flat,
+    names: &Names,
+) -> Result<Flat, Stop>
+    requires design { (count : ℕ) × NetlistFits count rec.now }
+    requires flat { (old : List Text) × IsFlatDesign device.now (named_design old rec.now)
+        (named_flat names.now flat) }
+    ensures { (design : NamedDesign) → design.rec ≡ rec.now
+        → Meets (λ flat. flat) (pinned device.now design (named_flat names.now flat)) result }
+{
+    match fixed_pins(alloc, rec, device, flat, names) {
+        Ok(flat) => Ok(flat),
+        Err(PinFault::Broken(rule, word)) => Err(broken(File::Design, rule, Place::Named(word))),
+        Err(PinFault::Memory) => Err(Stop::Memory),
+    }
+}
+
+// Whether no pin of a flat design is on a net, and no port is fixed.
+fn is_unconnected(flat: &Flat) -> bool
+    ensures { result ≡ (nat_eq (len flat.now.pins) 0 && nat_eq (len flat.now.fixed) 0) }
+{
+    flat.pins.len() == 0 && flat.fixed.len() == 0
+}
+
+/// The cells of a flat design without connected pins and fixed ports.
+fn unconnected(flat: Flat) -> Result<Items<FlatCell>, Stop>
+    ensures { (names : List Text) → Meets (named_cells names) (unconnected names flat) result }
+{
+    if !is_unconnected(&flat) {
+        return Err(Stop::Refused(Report::NotBuilt(File::Design)));
+    }
+    let Flat { cells, .. } = flat;
+    Ok(cells)
+}
+
+/// The cells of a design, whose flat names are added to the names.
+fn cells_in(
+    alloc: Global,
+    rec: &NetlistRec,
+    device: &Device,
+    names: &mut Names,
+) -> Result<Items<FlatCell>, Stop>
+    requires design { IsNetlistNamed names.old rec.now }
+    requires device { DeviceNamed (length names.old) device.now }
+    requires few { length names.old + 2 ^ 29 < 2 ^ 32 - 1 }
+    ensures cells { Meets (named_cells names.new)
+        (cells_in device.now (named_design names.old rec.now)) result }
+    ensures named { IfOk result (AllByRecursion (CellNamed (length names.new))) }
+    ensures keeps { KeepsNumbers names.old names.new }
+{
+    read_netlists_fit();
+    let flat = flat_design(alloc, rec, device, names)?;
+    let flat = pinned(alloc, rec, device, flat, names)?;
+    unconnected(flat)
 }
 
 // A name as a word of its own. `Memory` is its only error.
@@ -186,7 +274,7 @@ fn word_of(alloc: Global, names: &Names, id: NameId) -> Result<Word, Memory>
 fn unplaced(
     alloc: Global,
     names: &Names,
-    cells: &Items<Cell>,
+    cells: &Items<FlatCell>,
     fault: FitFault,
 ) -> Result<Report, Memory>
     requires cells { AllByRecursion (CellNamed (length names.now)) cells.now }
@@ -207,8 +295,13 @@ fn unplaced(
     }
 }
 
-/// Places the cells of a design without nets.
-fn place(alloc: Global, device: &Device, names: &Names, cells: &Items<Cell>) -> Result<Phys, Stop>
+/// Places the cells of a design, none of which is on a net.
+fn place(
+    alloc: Global,
+    device: &Device,
+    names: &Names,
+    cells: &Items<FlatCell>,
+) -> Result<Phys, Stop>
     requires named { DeviceNamed (length names.now) device.now }
     requires cells { AllByRecursion (CellNamed (length names.now)) cells.now }
     ensures placed { Meets (λ phys. phys) (placed device.now (named_cells names.now cells.now))
@@ -251,7 +344,12 @@ fn with_output(alloc: Global, report: Report, bytes: Vec<u8>) -> Result<Outcome,
 }
 
 /// The file of a netlist of cells.
-fn write(alloc: Global, phys: &Phys, names: &Names, cells: &Items<Cell>) -> Result<Outcome, Stop>
+fn write(
+    alloc: Global,
+    phys: &Phys,
+    names: &Names,
+    cells: &Items<FlatCell>,
+) -> Result<Outcome, Stop>
     requires { IsPhysNamed names.now phys.now }
     ensures { Meets outcome_seen (written (named_cells names.now cells.now) phys.now) result }
 {
@@ -263,12 +361,12 @@ fn write(alloc: Global, phys: &Phys, names: &Names, cells: &Items<Cell>) -> Resu
     }
 }
 
-/// Places the cells of a design without nets, and writes their netlist.
+/// Places the cells of a design, none of which is on a net, and writes their netlist.
 fn netlist_for(
     alloc: Global,
     device: &Device,
     names: &Names,
-    cells: &Items<Cell>,
+    cells: &Items<FlatCell>,
 ) -> Result<Outcome, Stop>
     requires named { DeviceNamed (length names.now) device.now }
     requires cells { AllByRecursion (CellNamed (length names.now)) cells.now }
@@ -285,13 +383,14 @@ fn answer_for(
     names: &mut Names,
     design: &Content,
 ) -> Result<Outcome, Stop>
-    requires room { length names.old + 2 ^ 22 < 2 ^ 32 - 1 }
+    requires room { length names.old ≤ 2 ^ 28 + 66 }
     requires named { DeviceNamed (length names.old) device.now }
     ensures { Meets outcome_seen (answer_for (named_device names.old device.now)
         (content_seen design.now)) result }
 {
     let frame = open(File::Design, design)?;
-    let cells = first_cells(alloc, &frame, device, names)?;
+    let rec = read_design(alloc, &frame, names)?;
+    let cells = cells_in(alloc, &rec, device, names)?;
     netlist_for(alloc, device, names, &cells)
 }
 

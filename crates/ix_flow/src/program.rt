@@ -11,6 +11,7 @@ ghost use Rattle.ix_flow.specs.Implements.{IsImplemented};
 use crate::status::{Status, status_of};
 use crate::words::{FlowWords, flow_words};
 use crate::work::FlowWork;
+use ix_fit_legal::fits_are_legal;
 use ix_job::run_job;
 use ix_report::USAGE_LINE;
 use ix_shelf::{Shelf, Sink, say};
@@ -74,6 +75,7 @@ pub fn run<S: Shelf, O: Sink>(alloc: Global, words: &[String], shelf: &mut S, ou
         (outside S.files S.read_faults S.write_faults O.told O.faults shelf.old out.old)
         (outside S.files S.read_faults S.write_faults O.told O.faults shelf.new out.new) }
 {
+    fits_are_legal();
     match flow_words(words) {
         Some(flow) => run_flow(alloc, &flow, shelf, out),
         None => {

@@ -3,6 +3,7 @@ pub mod Counted
 pub mod Entries
 pub mod Holding
 pub mod Lookup
+pub mod Owned
 pub mod Root
 pub mod Rows
 pub mod Steps

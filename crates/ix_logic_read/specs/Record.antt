@@ -1,5 +1,6 @@
 -- What a logical netlist says: its data, and what its pointers lead to, with names as texts.
-use Rattle.std.specs.Prelude.{ℕ, ◌<◌, List, [], ◌∷◌, map, length, Bool, if◌then◌else◌}
+use Rattle.std.specs.Prelude.{◌≡◌, ℕ, ◌<◌, List, [], ◌∷◌, map, length, Bool, if◌then◌else◌}
+use Rattle.std.specs.Prelude.{Contains, Some, option_map, slice_get, unwrap_or}
 use Rattle.std.specs.List.{All}
 use Rattle.ix_device_read.specs.Numbers.{direction_number}
 use Rattle.ix_message.specs.Names.{Datum, the_number, the_text}
@@ -171,6 +172,21 @@ pub record IsPortNamed (names : List Text) (p : Port) : Type 0 where
   pub name : IsName names p.name
   pub prop_map : All (IsEntryNamed names) p.prop_map.entries
 
+-- the ports of a declaration, in its order
+abbrev pub ports_of : NetlistRec → (decl : ℕ) → List ℕ
+ports_of n decl = unwrap_or (option_map (λ d. d.ports) (slice_get n.cell_decls decl)) []
+
+-- a port is one of the owner's declaration: that of the cell, or of the instance
+abbrev pub IsPortOf : NetlistRec → (own : ℕ) → PortOwner → (port : ℕ) → Type 0
+IsPortOf n own ExtPort port = Contains (ports_of n own) port
+IsPortOf n own (Inst i) port = (inst : CellInstance) × (slice_get n.inst_list i ≡ Some inst)
+    × Contains (ports_of n inst.cell) port
+
+-- each port that a net of a cell joins is one of its owner's declaration
+abbrev pub AreOwnersPorts : NetlistRec → Cell → Type 0
+AreOwnersPorts n c = All (λ (net : Net). All (λ p. IsPortOf n c.index p.owner p.port)
+    net.port_insts) c.nets
+
 pub record IsNetlistNamed (names : List Text) (n : NetlistRec) : Type 0 where
   pub name : IsName names n.name
   pub prop_map : All (IsEntryNamed names) n.prop_map.entries
@@ -180,3 +196,4 @@ pub record IsNetlistNamed (names : List Text) (n : NetlistRec) : Type 0 where
   pub inst_list : All (IsInstanceNamed names (length n.cell_decls)) n.inst_list
   pub cell_list : All (IsCellNamed names (length n.cell_decls) (length n.port_list)
       (length n.inst_list)) n.cell_list
+  pub owners_ports : All (AreOwnersPorts n) n.cell_list

@@ -18,6 +18,7 @@ impl<'c, 'n, 'a> Take<CellContext<'c, 'n, 'a>> for Net {
     ghost use Rattle.ix_message.specs.Netlist.{net};
     ghost use Rattle.ix_logic_read.specs.Asking.{any_struct, cell_entry, insts_in, lists_in};
     ghost use Rattle.ix_logic_read.specs.Asking.{made_in, ports_in};
+    ghost use Rattle.ix_logic_read.specs.Owners.{HaveOwners};
     ghost use Rattle.ix_logic_read.specs.Record.{net_record, IsNetNamed};
     ghost use Rattle.ix_logic_read.specs.Structs.{netlist_structs};
 
@@ -27,8 +28,8 @@ impl<'c, 'n, 'a> Take<CellContext<'c, 'n, 'a>> for Net {
 
     ghost record_by = { λ c. net_record c.netlist.now.texts.names.now };
 
-    ghost named = { λ c. IsNetNamed c.netlist.now.texts.names.now (ports_in c.netlist.now)
-        (insts_in c.netlist.now) };
+    ghost named = { λ c n. IsNetNamed c.netlist.now.texts.names.now (ports_in c.netlist.now)
+        (insts_in c.netlist.now) n × HaveOwners (lists_in c.netlist.now) c.decl n };
 
     ghost sound = { λ c. any_struct };
 
@@ -59,7 +60,8 @@ fn sorted(alloc: Global, l: Numbers<'_>) -> Result<Sorted, Memory>
 impl<'n, 'a> Take<NetlistContext<'n, 'a>> for Cell {
     ghost use Rattle.ix_message.specs.Netlist.{cell};
     ghost use Rattle.ix_logic_read.specs.Asking.{any_struct, asks_in, decls_in, insts_in, made_in};
-    ghost use Rattle.ix_logic_read.specs.Asking.{ports_in};
+    ghost use Rattle.ix_logic_read.specs.Asking.{lists_in, ports_in};
+    ghost use Rattle.ix_logic_read.specs.Owners.{AllHaveOwners};
     ghost use Rattle.ix_logic_read.specs.Record.{cell_record, IsCellNamed};
     ghost use Rattle.ix_logic_read.specs.Structs.{netlist_structs};
 
@@ -69,7 +71,8 @@ impl<'n, 'a> Take<NetlistContext<'n, 'a>> for Cell {
 
     ghost record_by = { λ c. cell_record c.texts.names.now };
 
-    ghost named = { λ c. IsCellNamed c.texts.names.now (decls_in c) (ports_in c) (insts_in c) };
+    ghost named = { λ c cell. IsCellNamed c.texts.names.now (decls_in c) (ports_in c) (insts_in c)
+        cell × AllHaveOwners (lists_in c) cell };
 
     ghost sound = { λ c. any_struct };
 

@@ -159,6 +159,7 @@ impl<'c, 'n, 'a> Take<CellContext<'c, 'n, 'a>> for PortInstance {
     ghost use Rattle.ix_message.specs.Names.{record_of};
     ghost use Rattle.ix_message.specs.Netlist.{port_instance};
     ghost use Rattle.ix_logic_read.specs.Asking.{cell_entry, any_struct, ports_in, insts_in};
+    ghost use Rattle.ix_logic_read.specs.Owners.{HasOwner};
     ghost use Rattle.ix_logic_read.specs.Record.{port_instance_record, IsPortInstanceWithin};
     ghost use Rattle.ix_logic_read.specs.Structs.{netlist_structs};
 
@@ -168,7 +169,8 @@ impl<'c, 'n, 'a> Take<CellContext<'c, 'n, 'a>> for PortInstance {
 
     ghost record_by = { λ c. port_instance_record };
 
-    ghost named = { λ c. IsPortInstanceWithin (ports_in c.netlist.now) (insts_in c.netlist.now) };
+    ghost named = { λ c p. IsPortInstanceWithin (ports_in c.netlist.now) (insts_in c.netlist.now) p
+        × HasOwner (lists_in c.netlist.now) c.decl p };
 
     ghost sound = { λ c. any_struct };
 

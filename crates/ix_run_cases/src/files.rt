@@ -1,13 +1,17 @@
 //! Files of a memory shelf, given as words `r=NAME`.
 
-use ix_cases::bytes_of;
+use crate::deep::deep_design;
+use ix_cases::{bytes_of, number};
 use ix_shelf::MemShelf;
 use std::alloc::{AllocError, Global};
 use std::{fs, io};
 
 /// The bytes of a file of hexadecimal digits; of the digits themselves where a `#` stands before
-/// them.
+/// them; a design of so many levels where an `@` stands before their number.
 fn read_hex(rt: &HostRuntime, name: &str) -> io::Result<Vec<u8>> {
+    if let Some(levels) = name.strip_prefix('@') {
+        return Ok(deep_design(rt.alloc(), number(levels))?);
+    }
     match name.strip_prefix('#') {
         Some(digits) => Ok(bytes_of(rt.alloc(), digits)?),
         None => {

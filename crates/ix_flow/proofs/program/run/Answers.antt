@@ -24,7 +24,7 @@ returns-in-Some-clause-complete g c =
     c.run_flow.ensures.complete
 
 pub returns-in-Some-clause-implements : goal.returns-in-Some-clause-implements
-returns-in-Some-clause-implements g c = run_implements _ _ _ _ (returns-in-Some-clause-run g c)
+returns-in-Some-clause-implements g c = run_implements c.fits_are_legal.ensures.law _ _ _ _ (returns-in-Some-clause-run g c)
 
 pub returns-in-None-clause-implements : goal.returns-in-None-clause-implements
 returns-in-None-clause-implements g c = λ h. absurd (usage_not_done h)

@@ -1,4 +1,5 @@
 use Rattle.std.proofs.Common.{◌≡◌, ◌∙◌, ◌++◌, ℕ, [], length, refl, subst}
+use Rattle.std.specs.Prelude.{slice_index_or}
 use Rattle.std.specs.List.{All}
 use Rattle.std.proofs.lemmas.Option.{slice_get_within, get_or_from_slice_get}
 use Rattle.std.proofs.lemmas.Result.{err_from_is_err_and}
@@ -7,6 +8,7 @@ use Rattle.ix_frame.specs.Views.{object_of, elements_of}
 use Rattle.ix_message.specs.Indexes.{steps}
 use Rattle.ix_message.specs.Names.{record_of}
 use Rattle.ix_message.specs.Netlist.{entry, cell_instance, cell_declaration, port, cell}
+use Rattle.ix_rec.specs.declared.netlist.NetlistRec.{NetlistRec}
 use Rattle.ix_schema.specs.Said.{said}
 use Rattle.ix_take.specs.Going.{stops_first, walked_then}
 use Rattle.ix_take.specs.Views.{table_of}
@@ -16,6 +18,7 @@ use Rattle.ix_logic_read.specs.Record.{port_record, IsCellNamed, IsDeclarationNa
 use Rattle.ix_logic_read.specs.Record.{IsInstanceNamed}
 use Rattle.ix_logic_read.specs.Structs.{netlist_structs}
 use Rattle.ix_logic_read.proofs.Rows.{each_asks, root_said, took, stuck}
+use Rattle.ix_logic_read.proofs.Owned.{are_owners_ports, cell_taken, ports_taken, Tells}
 use Rattle.ix_logic_read.proofs.Root.{asks_on, many_taken}
 use Rattle.ix_logic_read.proofs.netlist.take_netlist.Goals as goal
 
@@ -262,6 +265,24 @@ returns-clause-named c =
     let insts : insts_in ctx ≡ length c.in_ok-inst_list.inst_list =
     many_taken cell_instance (cell_instance_record names) table
     (elements_of ctx.insts) c.in_ok-inst_list.inst_list c.in_ok-inst_list.ensures.made.0 in
+    let n : NetlistRec = record {
+      name = c.args.name;
+      prop_map = c.in_ok-prop_map.prop_map;
+      top_inst = c.in_ok-top_inst.top_inst;
+      cell_decls = c.in_ok-cell_decls.cell_decls;
+      port_list = c.in_ok-port_list.port_list;
+      inst_list = c.in_ok-inst_list.inst_list;
+      cell_list = c.in_ok-cell_list.cell_list;
+    } in
+    let tells : Tells (lists_in ctx) n = record {
+      ports = ports_taken table names (elements_of ctx.decls) n.cell_decls
+          c.in_ok-cell_decls.ensures.made.0;
+      cells = cell_taken table names (elements_of ctx.insts) n.inst_list
+          c.in_ok-inst_list.ensures.made.0;
+    } in
+    let cells : All (IsCellNamed names (decls_in ctx) (ports_in ctx) (length n.inst_list))
+    n.cell_list = subst (λ (m : ℕ). All (IsCellNamed names (decls_in ctx) (ports_in ctx) m)
+    n.cell_list) insts (λ k d lt. (c.in_ok-cell_list.ensures.named k d lt).0) in
     record {
       name = slice_get_within names c.args.name
           (sound_text (object_of c.args.root) 0) c.requires.name;
@@ -276,7 +297,8 @@ returns-clause-named c =
       cell_list = subst (λ (n : ℕ). All (IsCellNamed names n (length c.in_ok-port_list.port_list)
           (length c.in_ok-inst_list.inst_list)) c.in_ok-cell_list.cell_list) decls
           (subst (λ (n : ℕ). All (IsCellNamed names (decls_in ctx) n
-          (length c.in_ok-inst_list.inst_list)) c.in_ok-cell_list.cell_list) ports
-          (subst (λ (n : ℕ). All (IsCellNamed names (decls_in ctx) (ports_in ctx) n)
-          c.in_ok-cell_list.cell_list) insts c.in_ok-cell_list.ensures.named));
+          (length c.in_ok-inst_list.inst_list)) c.in_ok-cell_list.cell_list) ports cells);
+      owners_ports = λ k d lt. are_owners_ports (lists_in ctx) n names (decls_in ctx)
+          (ports_in ctx) (slice_index_or n.cell_list k d) tells (cells k d lt)
+          (c.in_ok-cell_list.ensures.named k d lt).1;
     }

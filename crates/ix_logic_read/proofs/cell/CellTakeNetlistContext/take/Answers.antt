@@ -1,5 +1,5 @@
-use Rattle.std.proofs.Common.{◌≡◌, ◌∙◌, List, ℕ, [], ◌∷◌, Ok, length, map, refl, ap, sym, subst}
-use Rattle.std.specs.List.{flat_map}
+use Rattle.std.proofs.Common.{◌≡◌, ◌∙◌, ◌<◌, List, ℕ, [], ◌∷◌, Ok, length, map, refl, ap, sym, subst}
+use Rattle.std.specs.List.{flat_map, All}
 use Rattle.std.proofs.lemmas.Result.{err_from_is_err_and}
 use Rattle.ix_frame.specs.Objects.{numbers_in}
 use Rattle.ix_frame.specs.Sound.{sound_list, sound_elements}
@@ -107,4 +107,17 @@ returns-clause-made c =
       rw (c.in_ok-index.ensures.made.1, made.0, taken.0) refl,
       walk ∙ on ∙ ap (walked netlist_structs mid) (nets_in_cell l (seen o) here nets same)
           ∙ taken.1,
+    )
+
+pub returns-clause-named : goal.returns-clause-named
+returns-clause-named c =
+    let nets = c.in_ok-nets.ensures.named in (
+      record {
+        index = subst (λ (n : ℕ). c.in_ok-index.index < n) c.decl_count.ensures
+            c.in_ok-index.ensures.below;
+        insts = subst (λ (n : ℕ). All (λ i. i < n) c.in_ok-insts.insts) c.inst_count.ensures
+            c.in_ok-insts.ensures.below;
+        nets = λ k d lt. (nets k d lt).0;
+      },
+      λ k d lt. (nets k d lt).1,
     )

@@ -1,0 +1,4 @@
+pub mod Fresh
+pub mod ValidNames
+pub mod Leading
+pub mod Keeping

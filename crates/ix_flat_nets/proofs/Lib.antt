@@ -1,0 +1,4 @@
+pub mod Chains
+pub mod Cells
+pub mod Made
+pub mod Given

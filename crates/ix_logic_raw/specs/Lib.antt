@@ -1,4 +1,0 @@
--- What public contracts say.
-pub mod Raw
--- For private contracts and proofs.
-pub mod Boxes

@@ -1,0 +1,4 @@
+pub mod Items
+pub mod Counting
+pub mod Alike
+pub mod Small

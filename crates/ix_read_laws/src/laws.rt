@@ -1,0 +1,16 @@
+//! Laws on records that were read, over the definitions alone.
+
+ghost use Rattle.ix_read_laws.specs.Laws.{ReadDevicesFit, ReadNetlistsFit};
+
+/// The numbers of a logical netlist that was read are in its lists and among the names, and each
+/// port bit that a net names is of a port of its owner's declaration.
+#[tactic(auto, using(crate::proofs::NamedFits::named_fits))]
+pub fn read_netlists_fit()
+    ensures { ReadNetlistsFit }
+{}
+
+/// The inputs of the LUT types of a device that was read are among the names.
+#[tactic(auto, using(crate::proofs::NamedFits::inputs_named))]
+pub fn read_devices_fit()
+    ensures { ReadDevicesFit }
+{}

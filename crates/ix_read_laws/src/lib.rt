@@ -1,0 +1,6 @@
+//! What is read of a design and of a device is such as flattening asks.
+#![tactic(auto)]
+
+mod laws;
+
+pub use laws::{read_devices_fit, read_netlists_fit};

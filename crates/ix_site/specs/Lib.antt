@@ -1,0 +1,8 @@
+-- What public contracts say.
+pub mod Filled
+pub mod Planned
+pub mod Wants
+pub mod Trees
+pub mod Demands
+pub mod Wiring
+pub mod Plans

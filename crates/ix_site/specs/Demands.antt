@@ -3,7 +3,7 @@ use Rattle.std.specs.Prelude.{ℕ, List, [], ◌∷◌, length, Bool, true, fals
 use Rattle.std.specs.Prelude.{slice_get, Option, Some, None, is_some, option_map, option_and_then}
 use Rattle.std.specs.FinMap.{entries}
 use Rattle.std.specs.List.{filter, find, list_any, range_with_len}
-use Rattle.ix_num.specs.Numbers.{BelNumber, BelPinNumber, SiteWireNumber, NetNumber}
+use Rattle.ix_num.specs.Numbers.{BelNumber, BelPinNumber, SiteWireNumber}
 use Rattle.ix_num.specs.declared.resource.NetRef.{NetRef}
 use Rattle.ix_num.specs.declared.resource.NetRef.TheVariants.{Gnd, Vcc, Signal}
 use Rattle.ix_num.specs.declared.resource.Constant.{Constant}
@@ -14,7 +14,7 @@ use Rattle.ix_lut.specs.Items.{same_net}
 use Rattle.ix_device.specs.Lookups.{bel_in}
 use Rattle.ix_device.specs.Elements.{element_of_bel}
 use Rattle.ix_device.specs.Sources.{site_source_in, has_constant}
-use Rattle.ix_site.specs.Filled.{Filled, has_cell, has_cell_on}
+use Rattle.ix_site.specs.Filled.{Filled, NetNumber, has_cell, has_cell_on}
 use Rattle.ix_site.specs.Wants.{MappedPin, Want, Open, For, want_at}
 
 pub record Demand : Type 0 where

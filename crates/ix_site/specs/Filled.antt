@@ -20,6 +20,10 @@ is_that x (Some y) = nat_eq x y
 abbrev pub CellNumber : Type 0
 CellNumber = ℕ
 
+-- the number of a signal net of the design
+abbrev pub NetNumber : Type 0
+NetNumber = ℕ
+
 -- the number of a LUT element of the site type
 abbrev pub ElementNumber : Type 0
 ElementNumber = ℕ

@@ -1,5 +1,5 @@
 -- Site plans: the seven steps together.
-use Rattle.std.specs.Prelude.{◌≡◌, ⊥, List, [], ◌∷◌, length, map, slice_get, Some}
+use Rattle.std.specs.Prelude.{◌≡◌, List, [], ◌∷◌, length, map, slice_get, Some}
 use Rattle.std.specs.List.{range_with_len}
 use Rattle.ix_num.specs.declared.resource.NetRef.{NetRef}
 use Rattle.ix_num.specs.declared.resource.NetRef.TheVariants.{Gnd, Vcc, Signal}

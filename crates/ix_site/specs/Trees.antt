@@ -1,5 +1,5 @@
 -- Trees of nets inside a site: which wires they hold, and how they grow.
-use Rattle.std.specs.Prelude.{ℕ, ◌+◌, List, [], ◌∷◌, ◌++◌, map, Bool, false, ◌map, Bool, ◌&&◌, nat_eq, nat_lt}map, Bool, ◌&&◌, nat_eq, nat_lt}◌, nat_eq}
+use Rattle.std.specs.Prelude.{ℕ, ◌+◌, List, [], ◌∷◌, ◌++◌, map, Bool, ◌&&◌, nat_eq}
 use Rattle.std.specs.Prelude.{nat_lt, slice_get, Option, Some, None, if◌then◌else◌}
 use Rattle.std.specs.Prelude.{option_and_then}
 use Rattle.std.specs.List.{flat_map, list_any}

@@ -109,12 +109,19 @@ abbrev pub want_at : List (SiteWireNumber × Want) → SiteWireNumber → Option
 want_at [] wire = None
 want_at ((w, want) ∷ wants) wire = if nat_eq w wire then Some want else want_at wants wire
 
+-- one of these pins is this one of this cell
+pub record IsMapped (pins : List MappedPin) (cell : CellNumber) (pin : NameNumber) : Type 0 where
+  pub place : MappedPin
+  pub among : Contains pins place
+  pub cell_is : place.cell ≡ cell
+  pub pin_is : place.pin ≡ pin
+
 -- Each connected pin of a cell is mapped, to a BEL pin in a site wire, and no two wants of one wire
 -- differ.
 pub record CanBeWanted (s : Filled) (pins : List MappedPin) (wants : List (SiteWireNumber × Want))
     : Type 0 where
   pub pins_mapped : (c : CellNumber) (pin : NameNumber) → has_cell s c ≡ true
-      → IsSome (get s.flat.pins (c, pin)) → Contains (map (λ p. (p.cell, p.pin)) pins) (c, pin)
+      → IsSome (get s.flat.pins (c, pin)) → IsMapped pins c pin
   pub pins_on_wires : (p : MappedPin) → Contains pins p → IsSome p.net
       → IsSome (wire_in p.bel_pin s.ty)
   pub agree : (wire : SiteWireNumber) (want : Want) → Contains wants (wire, want)

@@ -1,5 +1,5 @@
 -- The third to sixth steps: how the nets of a site are led over its wires, one after another.
-use Rattle.std.specs.Prelude.{◌≡◌, ℕ, ◌<◌, ◌⊎◌, ⊥, List, [], ◌∷◌, ◌++◌, length, map, Bool, true}
+use Rattle.std.specs.Prelude.{◌≡◌, ℕ, ◌<◌, ◌⊎◌, List, [], ◌∷◌, ◌++◌, length, map, Bool, true}
 use Rattle.std.specs.Prelude.{false, not, ◌&&◌, ◌||◌, nat_eq, slice_get, Option, Some, None}
 use Rattle.std.specs.Prelude.{is_some, option_map, unwrap_or, if◌then◌else◌, option_and_then}
 use Rattle.std.specs.List.{filter, find, flat_map, list_any, position, range_with_len}

@@ -1,5 +1,5 @@
 -- What the wiring of a site goes by: what is wanted, and where trees may begin and end.
-use Rattle.std.specs.Prelude.{ℕ, List, [], ◌∷◌, length, Bool, true, false, not, ◌&&◌, nat_eq}
+use Rattle.std.specs.Prelude.{List, [], length, Bool, true, false, not, ◌&&◌, nat_eq}
 use Rattle.std.specs.Prelude.{slice_get, Option, Some, None, is_some, option_map, option_and_then}
 use Rattle.std.specs.FinMap.{entries}
 use Rattle.std.specs.List.{filter, find, list_any, range_with_len}

@@ -1,5 +1,5 @@
 -- A site of a type whose BELs hold cells of a design, and what is told of these cells.
-use Rattle.std.specs.Prelude.{ℕ, List, [], slice_get, Bool, true, false, ◌&&◌, nat_eq, Option, Some}
+use Rattle.std.specs.Prelude.{ℕ, List, [], slice_get, Bool, false, ◌&&◌, nat_eq, Option, Some}
 use Rattle.std.specs.Prelude.{None, is_some, option_map, option_and_then}
 use Rattle.std.specs.List.{list_any}
 use Rattle.ix_num.specs.Numbers.{NameNumber, BelNumber}

@@ -6,3 +6,5 @@ pub mod Trees
 pub mod Demands
 pub mod Wiring
 pub mod Plans
+pub mod Ends
+pub mod Laws

@@ -1,6 +1,6 @@
 -- The first step: the plans of the elements that have LUT cells.
 use Rattle.std.specs.Prelude.{◌≡◌, ℕ, ◌+◌, List, [], ◌∷◌, ◌++◌, length, map, take, Contains}
-use Rattle.std.specs.Prelude.{slice_get, slice_index, slice_index_or, Bool, true, ◌&&◌, nat_eq}
+use Rattle.std.specs.Prelude.{slice_get, slice_index, slice_index_or, Bool, true, ◌&&◌}
 use Rattle.std.specs.Prelude.{Option, Some, None, option_map, unwrap_or, option_and_then}
 use Rattle.std.specs.FinMap.{get}
 use Rattle.std.specs.List.{filter, find, flat_map, list_any, range_with_len, AllByRecursion}
@@ -48,26 +48,28 @@ use_of s c = record {
   nets = six (map (input_net s.flat c.cell) (lut_inputs s c));
 }
 
--- the LUT cells of an element of so many BELs, by their BELs
-abbrev pub luts_in : Filled → ElementNumber → (bels : ℕ) → List ClusterCell
-luts_in s element bels = flat_map (λ place. filter (λ c. is_lut s c && stands_at s element place c)
-    s.cells) (range_with_len 0 bels)
+abbrev pub bel_count : Filled → ElementNumber → ℕ
+bel_count s element = unwrap_or (option_map (λ e. length e.bels)
+    (slice_get (elements_of s.device s.ty) element)) 0
+
+-- the LUT cells of an element, by their BELs
+abbrev pub luts_in : Filled → ElementNumber → List ClusterCell
+luts_in s element = flat_map (λ place. filter (λ c. is_lut s c && stands_at s element place c)
+    s.cells) (range_with_len 0 (bel_count s element))
 
 -- an element with LUT cells: its number, its shape, and its plan
 pub record PlannedElement : Type 0 where
   pub number : ElementNumber
+  -- its lines and BELs as its plan sees them
   pub shape : ElementShape
   pub plan : ElementPlan
-
-abbrev pub luts_of : Filled → PlannedElement → List ClusterCell
-luts_of s e = luts_in s e.number e.shape.bel_count
 
 -- The plan is the element's for its LUT cells, and no plain cell stands in it.
 pub record IsPlanned (s : Filled) (e : PlannedElement) : Type 0 where
   pub shape_is : shape_in s.device e.number s.ty ≡ Some (shape_seen e.shape)
   pub luts_alone : (c : ClusterCell) → Contains s.cells c → stands_in s e.number c ≡ true
       → is_lut s c ≡ true
-  pub plan_is : IsPlan e.shape (map (use_of s) (luts_of s e)) e.plan
+  pub plan_is : IsPlan e.shape (map (use_of s) (luts_in s e.number)) e.plan
 
 abbrev pub has_luts : Filled → ElementNumber → Bool
 has_luts s element = list_any (λ c. is_lut s c && stands_in s element c) s.cells
@@ -113,7 +115,7 @@ choices_from s e u (c ∷ cs) = (c.cell, chosen_pins s e u c) ∷ choices_from s
 -- of all LUT cells: element by element, and in an element by their BELs
 abbrev pub choices_of : Filled → List PlannedElement
     → List (CellNumber × List (Option BelPinNumber))
-choices_of s elements = flat_map (λ e. choices_from s e 0 (luts_of s e)) elements
+choices_of s elements = flat_map (λ e. choices_from s e 0 (luts_in s e.number)) elements
 
 abbrev pub choice_seen : LutChoice → CellNumber × List (Option BelPinNumber)
 choice_seen choice = (choice.cell, map Some choice.pins)

@@ -1,6 +1,6 @@
 -- Trees of nets inside a site: which wires they hold, and how they grow.
-use Rattle.std.specs.Prelude.{ℕ, ◌+◌, List, [], ◌∷◌, ◌++◌, map, Bool, ◌&&◌, nat_eq}
-use Rattle.std.specs.Prelude.{nat_lt, slice_get, Option, Some, None, if◌then◌else◌}
+use Rattle.std.specs.Prelude.{ℕ, ◌+◌, List, [], ◌∷◌, map, Bool, ◌&&◌, nat_eq}
+use Rattle.std.specs.Prelude.{nat_lt, slice_get, Option, None, if◌then◌else◌}
 use Rattle.std.specs.Prelude.{option_and_then}
 use Rattle.std.specs.List.{flat_map, list_any}
 use Rattle.ix_num.specs.Numbers.{BelPinNumber, SitePinNumber, SiteWireNumber}

@@ -1,6 +1,6 @@
 -- The second step: what is wanted of the wires of a site.
-use Rattle.std.specs.Prelude.{◌≡◌, ℕ, ◌+◌, List, [], ◌∷◌, ◌++◌, map, Contains, Bool, true, false, not}
-use Rattle.std.specs.Prelude.{nat_eq, Option, Some, None, IsSome, unwrap_or, option_and_then}
+use Rattle.std.specs.Prelude.{◌≡◌, ◌+◌, List, [], ◌∷◌, ◌++◌, map, Contains, true, not}
+use Rattle.std.specs.Prelude.{nat_eq, Option, Some, None, IsSome, unwrap_or, option_map, option_and_then}
 use Rattle.std.specs.Prelude.{if◌then◌else◌, slice_get}
 use Rattle.std.specs.FinMap.{get}
 use Rattle.std.specs.List.{filter, find, flat_map, list_any, zip}
@@ -11,7 +11,6 @@ use Rattle.ix_rec.specs.declared.device.SiteType.{SiteType}
 use Rattle.ix_rec.specs.declared.flow.ClusterCell.{ClusterCell}
 use Rattle.ix_rec.specs.declared.flow.LutChoice.{LutChoice}
 use Rattle.ix_lut.specs.Shapes.{held_by}
-use Rattle.ix_lut.specs.Items.{same_net}
 use Rattle.ix_lut.specs.Places.{LineNumber}
 use Rattle.ix_lut.specs.declared.shape.Tie.{Tie}
 use Rattle.ix_lut.specs.declared.shape.Tie.TheVariants as tie
@@ -19,8 +18,8 @@ use Rattle.ix_device.specs.Lookups.{wire_in}
 use Rattle.ix_device.specs.Elements.{elements_of}
 use Rattle.ix_device.specs.Shapes.{lines_of}
 use Rattle.ix_device.specs.Admission.{pins_in}
-
-use Rattle.ix_site.specs.Filled.{Filled, CellNumber, type_of_cell, lut_inputs, has_cell}
+use Rattle.ix_site.specs.Filled.{Filled, CellNumber, ElementNumber, type_of_cell, lut_inputs}
+use Rattle.ix_site.specs.Filled.{has_cell}
 use Rattle.ix_site.specs.Planned.{PlannedElement}
 
 -- a pin of a cell on a BEL pin, and its net where it is on one
@@ -95,14 +94,14 @@ line_wants e line (wire ∷ wires) = tie_wants wire (held_by e.plan.ties line)
     ++ line_wants e (line + 1) wires
 
 -- the wires of an element's lines
-abbrev pub wires_of_lines : Filled → PlannedElement → List SiteWireNumber
-wires_of_lines s e = unwrap_or (option_and_then (λ x. Some (lines_of s.ty x))
-    (slice_get (elements_of s.device s.ty) e.number)) []
+abbrev pub element_wires : Filled → ElementNumber → List SiteWireNumber
+element_wires s element = unwrap_or (option_map (lines_of s.ty)
+    (slice_get (elements_of s.device s.ty) element)) []
 
 -- all that is wanted, each by a pin or a tie
 abbrev pub all_wants : Filled → List LutChoice → List PlannedElement → List (SiteWireNumber × Want)
 all_wants s choices elements = flat_map (pin_wants s.ty) (all_pins s choices)
-    ++ flat_map (λ e. line_wants e 0 (wires_of_lines s e)) elements
+    ++ flat_map (λ e. line_wants e 0 (element_wires s e.number)) elements
 
 -- what is wanted of a wire, where something is
 abbrev pub want_at : List (SiteWireNumber × Want) → SiteWireNumber → Option Want

@@ -17,8 +17,8 @@ use Rattle.ix_device.specs.Lookups.{wire_in}
 use Rattle.ix_device.specs.Elements.{present}
 use Rattle.ix_device.specs.SitePips.{site_pip_from}
 use Rattle.ix_site.specs.Filled.{is_that}
-use Rattle.ix_site.specs.Wants.{MappedPin, want_at}
-use Rattle.ix_site.specs.Trees.{entry_wire, exit_wire, wires_of, is_held, is_held_by, held_wires}
+use Rattle.ix_site.specs.Wants.{want_at}
+use Rattle.ix_site.specs.Trees.{entry_wire, exit_wire, is_held, is_held_by, held_wires}
 use Rattle.ix_site.specs.Trees.{root, with_segment, with_path, with_bel_pins}
 use Rattle.ix_site.specs.Demands.{Demand, driver_of, has_pin_outside, sources_of, may_come_in}
 use Rattle.ix_site.specs.Demands.{suits, wanted_wires}

@@ -26,34 +26,14 @@ use Rattle.ix_lut.specs.declared.shape.Tie.TheVariants as tie
 use Rattle.ix_device.specs.Lookups.{pin_of_bel}
 use Rattle.ix_device.specs.Elements.{elements_of, element_of_bel}
 use Rattle.ix_device.specs.Shapes.{BelSeen, ShapeSeen, shape_in}
-use Rattle.ix_device.specs.Admission.{pins_in}
-use Rattle.ix_flat.specs.Range.{IsInRange}
-use Rattle.ix_flat.specs.Whole.{AllDiffer, IsWhole}
-use Rattle.ix_site.specs.Filled.{Filled, type_of_cell, lut_of}
+use Rattle.ix_site.specs.Filled.{Filled, lut_of}
 use Rattle.ix_site.specs.Wants.{Open, For, want_at, element_wires}
 use Rattle.ix_site.specs.Trees.{entry_wire}
 use Rattle.ix_site.specs.Demands.{Demand, driver_of, sources_of}
 use Rattle.ix_site.specs.Wiring.{is_output_pin}
-use Rattle.ix_site.specs.Plans.{IsSitePlan, filled_with, demanded}
+use Rattle.ix_site.specs.Plans.{MayBePlanned, IsSitePlan, filled_with, demanded}
 use Rattle.ix_site.specs.Ends.{End, AtWire, ends_of, segment_at, net_of_tree, depth_of, IsParent}
 use Rattle.ix_site.specs.Ends.{Holds, Enters, first_end, second_end}
-
--- What a plan is asked for.
-
--- the BEL admits the cell
-pub record IsAdmitted (rec : DeviceRec) (flat : Flat) (ty : SiteType) (c : ClusterCell)
-    : Type 0 where
-  pub name : ℕ
-  pub name_is : type_of_cell flat c.cell ≡ Some name
-  pub admits : IsSome (pins_in rec name c.bel ty)
-
--- different cells of the design, each on a BEL of its own that admits it
-pub record IsPlaceable (rec : DeviceRec) (flat : Flat) (cluster : Cluster) : Type 0 where
-  pub ty : SiteType
-  pub ty_is : slice_get rec.site_type_list cluster.site_type ≡ Some ty
-  pub cells_differ : AllDiffer (map (λ c. c.cell) cluster.cells)
-  pub bels_differ : AllDiffer (map (λ c. c.bel) cluster.cells)
-  pub admitted : (c : ClusterCell) → Contains cluster.cells c → IsAdmitted rec flat ty c
 
 -- The wires of a plan.
 
@@ -177,13 +157,6 @@ pub record KeepsTables (s : Filled) (plan : SitePlan) : Type 0 where
       → slice_get plan.choices j ≡ Some other → one.cell ≡ other.cell → i ≡ j
 
 -- The laws.
-
--- a whole design, and a cluster of it that may be asked for a plan
-pub record MayBePlanned (rec : DeviceRec) (flat : Flat) (cluster : Cluster) : Type 0 where
-  pub names : List (List ℕ)
-  pub whole : IsWhole names rec flat
-  pub range : IsInRange rec flat
-  pub placeable : IsPlaceable rec flat cluster
 
 pub record IsSound (rec : DeviceRec) (flat : Flat) (cluster : Cluster) (plan : SitePlan)
     (is : IsSitePlan rec flat cluster plan) : Type 0 where

@@ -102,7 +102,8 @@ chosen_pin s e u place i =
     (slice_get (elements_of s.device s.ty) e.number)
 
 -- those of all its inputs
-abbrev pub chosen_pins : Filled → PlannedElement → (u : ℕ) → ClusterCell → List (Option BelPinNumber)
+abbrev pub chosen_pins : Filled → PlannedElement → (u : ℕ) → ClusterCell
+    → List (Option BelPinNumber)
 chosen_pins s e u c = map (chosen_pin s e u (use_of s c).bel)
     (range_with_len 0 (length (lut_inputs s c)))
 

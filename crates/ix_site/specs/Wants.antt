@@ -1,6 +1,7 @@
 -- The second step: what is wanted of the wires of a site.
 use Rattle.std.specs.Prelude.{◌≡◌, ◌+◌, List, [], ◌∷◌, ◌++◌, map, Contains, true, not}
-use Rattle.std.specs.Prelude.{nat_eq, Option, Some, None, IsSome, unwrap_or, option_map, option_and_then}
+use Rattle.std.specs.Prelude.{nat_eq, Option, Some, None, IsSome, unwrap_or, option_map}
+use Rattle.std.specs.Prelude.{option_and_then}
 use Rattle.std.specs.Prelude.{if◌then◌else◌, slice_get}
 use Rattle.std.specs.FinMap.{get}
 use Rattle.std.specs.List.{filter, find, flat_map, list_any, zip}

@@ -11,7 +11,7 @@ use Rattle.ix_rec.specs.declared.flow.SiteTree.{SiteTree}
 use Rattle.ix_lut.specs.Items.{same_net}
 use Rattle.ix_device.specs.Elements.{present}
 use Rattle.ix_site.specs.Filled.{is_that}
-use Rattle.ix_site.specs.Trees.{end_wire, put_below, hung, hung_in, with_segment, is_in_tree, is_held}
+use Rattle.ix_site.specs.Trees.{end_wire, put_below, hung, hung_in, with_segment, is_in_tree, is_held_by}
 
 -- a wire is among the wires to which these segments lead
 abbrev pub has : SiteType → (wire : ℕ) → List (Branch SiteSegment) → Bool
@@ -97,3 +97,83 @@ hung_nowhere t from item (b ∷ bs) lacks = by (is_that from (end_wire t b.item)
         ∙ ap (λ x. x || has t from bs) is))
     by false is rest = ap (λ x. b ∷ x) (rest (sym (ap (λ x. x || has t from bs) is)
         ∙ sym (has_cons t from b bs) ∙ lacks))
+
+-- Trees of a net among those of others.
+
+-- a net's tree has the wire
+abbrev pub has_of : SiteType → NetRef → (wire : ℕ) → SiteTree → Bool
+has_of t net wire tree = same_net tree.net net && is_in_tree t wire tree
+
+-- in a net's tree a segment is hung where it has the wire from which the segment leads
+hung_or_not : (t : SiteType) (from wire : ℕ) (item : SiteSegment) (bs : List (Branch SiteSegment))
+    → has t wire (hung t from item bs)
+    ≡ ((has t from bs && is_that wire (end_wire t item)) || has t wire bs)
+hung_or_not t from wire item bs = by (has t from bs) refl
+  where
+    by : (c : Bool) → has t from bs ≡ c → has t wire (hung t from item bs)
+        ≡ ((has t from bs && is_that wire (end_wire t item)) || has t wire bs)
+    by true is = hung_has t from wire item bs is
+        ∙ sym (ap (λ x. (x && is_that wire (end_wire t item)) || has t wire bs) is)
+    by false is = ap (has t wire) (hung_nowhere t from item bs is)
+        ∙ sym (ap (λ x. (x && is_that wire (end_wire t item)) || has t wire bs) is)
+
+hung_of : (t : SiteType) (net : NetRef) (from wire : ℕ) (item : SiteSegment) (tree : SiteTree)
+    → has_of t net wire (hung_in t net from item tree)
+    ≡ ((has_of t net from tree && is_that wire (end_wire t item)) || has_of t net wire tree)
+hung_of t net from wire item tree = by (same_net tree.net net) refl
+  where
+    grown : SiteTree
+    grown = record tree { segments = hung t from item tree.segments }
+    by : (c : Bool) → same_net tree.net net ≡ c → has_of t net wire (cond c grown tree)
+        ≡ ((has_of t net from tree && is_that wire (end_wire t item)) || has_of t net wire tree)
+    by true is = ap (λ x. x && has t wire grown.segments) is
+        ∙ hung_or_not t from wire item tree.segments
+        ∙ sym (ap (λ x. ((x && is_in_tree t from tree) && is_that wire (end_wire t item))
+            || (x && is_in_tree t wire tree)) is)
+    by false is = ap (λ x. x && is_in_tree t wire tree) is
+        ∙ sym (ap (λ x. ((x && is_in_tree t from tree) && is_that wire (end_wire t item))
+            || (x && is_in_tree t wire tree)) is)
+
+gather : (p q e a b : Bool) → (((p && e) || a) || ((q && e) || b)) ≡ (((p || q) && e) || (a || b))
+gather true q true a b = refl
+gather true true false a b = refl
+gather true false false a b = refl
+gather false q e a b = or_swap a (q && e) b
+
+-- A segment hung from a wire that the net holds adds the wire to which it leads to what the net
+-- holds; from another wire nothing is hung.
+pub segment_held : (t : SiteType) (net : NetRef) (from wire : ℕ) (item : SiteSegment)
+    (trees : List SiteTree) → is_held_by t net wire (with_segment t net from item trees)
+    ≡ ((is_held_by t net from trees && is_that wire (end_wire t item))
+    || is_held_by t net wire trees)
+segment_held t net from wire item [] = refl
+segment_held t net from wire item (tree ∷ trees) =
+    ap (λ x. x || is_held_by t net wire (with_segment t net from item trees))
+    (hung_of t net from wire item tree)
+    ∙ ap (λ x. ((has_of t net from tree && is_that wire (end_wire t item))
+        || has_of t net wire tree) || x) (segment_held t net from wire item trees)
+    ∙ gather (has_of t net from tree) (is_held_by t net from trees)
+      (is_that wire (end_wire t item)) (has_of t net wire tree) (is_held_by t net wire trees)
+
+-- a net that no tree shares with this one
+abbrev pub IsOther : NetRef → NetRef → Type 0
+IsOther net other = (x : NetRef) → same_net x other ≡ true → same_net x net ≡ false
+
+-- what another net holds stays
+pub others_kept : (t : SiteType) (net other : NetRef) (from wire : ℕ) (item : SiteSegment)
+    (trees : List SiteTree) → IsOther net other
+    → is_held_by t other wire (with_segment t net from item trees) ≡ is_held_by t other wire trees
+others_kept t net other from wire item [] differs = refl
+others_kept t net other from wire item (tree ∷ trees) differs =
+    ap (λ x. x || is_held_by t other wire (with_segment t net from item trees))
+    (kept (same_net tree.net net) (same_net tree.net other) refl refl)
+    ∙ ap (λ x. has_of t other wire tree || x) (others_kept t net other from wire item trees differs)
+  where
+    grown : SiteTree
+    grown = record tree { segments = hung t from item tree.segments }
+    kept : (c d : Bool) → same_net tree.net net ≡ c → same_net tree.net other ≡ d
+        → has_of t other wire (cond c grown tree) ≡ has_of t other wire tree
+    kept false d is at = refl
+    kept true true is at = absurd (false≢true (sym (differs tree.net at) ∙ is))
+    kept true false is at = ap (λ x. x && is_in_tree t wire grown) at
+        ∙ sym (ap (λ x. x && is_in_tree t wire tree) at)

@@ -1,3 +1,4 @@
 pub mod Growing
 pub mod Edges
 pub mod Ways
+pub mod Paths

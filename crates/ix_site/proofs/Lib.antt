@@ -2,3 +2,4 @@ pub mod Growing
 pub mod Edges
 pub mod Ways
 pub mod Paths
+pub mod Members

@@ -3,3 +3,4 @@ pub mod Edges
 pub mod Ways
 pub mod Paths
 pub mod Members
+pub mod Turns

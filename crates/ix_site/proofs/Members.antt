@@ -4,6 +4,8 @@ use Rattle.std.proofs.Common.{nat_eq, Option, Some, None, Contains, All, refl, s
 use Rattle.std.specs.List.{filter, find, list_any, AllByRecursion}
 use Rattle.std.proofs.lemmas.Bool.{eq-eqb, eqb-true, false≢true}
 use Rattle.std.proofs.lemmas.List.Elements.{All-contains, All-from_recursion}
+use Rattle.std.proofs.Common.{unwrap_or}
+use Rattle.std.proofs.lemmas.Option.{none-some}
 use Rattle.ix_device.specs.Elements.{present}
 use Rattle.ix_site.specs.Filled.{is_that}
 
@@ -91,3 +93,14 @@ found_in p (x ∷ xs) e = by (p x) refl e (found_in p xs)
       found = ap (λ b. cond b (Some x) (find p xs)) is ∙ h.found;
       passes = h.passes;
     }
+
+-- what is found passes
+pub found_passes : {A : Type 0} (p : A → Bool) (xs : List A) (x : A) → find p xs ≡ Some x
+    → p x ≡ true
+found_passes p [] x e = absurd (none-some x e)
+found_passes p (y ∷ ys) x e = by (p y) refl e (found_passes p ys x)
+  where
+    by : (c : Bool) → p y ≡ c → cond c (Some y) (find p ys) ≡ Some x
+        → (find p ys ≡ Some x → p x ≡ true) → p x ≡ true
+    by true is e rest = sym (ap (λ o. p (unwrap_or o y)) e) ∙ is
+    by false is e rest = rest e

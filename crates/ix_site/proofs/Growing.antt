@@ -105,7 +105,7 @@ abbrev pub has_of : SiteType → NetRef → (wire : ℕ) → SiteTree → Bool
 has_of t net wire tree = same_net tree.net net && is_in_tree t wire tree
 
 -- in a net's tree a segment is hung where it has the wire from which the segment leads
-hung_or_not : (t : SiteType) (from wire : ℕ) (item : SiteSegment) (bs : List (Branch SiteSegment))
+pub hung_or_not : (t : SiteType) (from wire : ℕ) (item : SiteSegment) (bs : List (Branch SiteSegment))
     → has t wire (hung t from item bs)
     ≡ ((has t from bs && is_that wire (end_wire t item)) || has t wire bs)
 hung_or_not t from wire item bs = by (has t from bs) refl

@@ -4,3 +4,4 @@ pub mod Ways
 pub mod Paths
 pub mod Members
 pub mod Turns
+pub mod Kept

@@ -5,3 +5,4 @@ pub mod Paths
 pub mod Members
 pub mod Turns
 pub mod Kept
+pub mod Adding

@@ -90,11 +90,12 @@ root_holds t net stub segment trees wire leads = root_held t net net stub segmen
     ∙ ap (λ b. is_held_by t net wire trees || b) (eq-eqb wire wire refl)
     ∙ or_true (is_held_by t net wire trees)
 
--- a wire at which a path may start is held, or has a source
-source_here : (d : Demand) (net : NetRef) (before : List SiteTree) (wire : ℕ)
+-- a wire at which a path may start is held, or is that of a source and may be entered
+spare_here : (d : Demand) (net : NetRef) (before : List SiteTree) (wire : ℕ)
     → Contains (starts d net before) wire → is_held_by d.ty net wire before ≡ false
-    → IsFoundIn (λ pin. is_that wire (wire_in pin d.ty)) (sources_of d net)
-source_here d net before wire start free =
+    → (among (present (map (λ pin. wire_in pin d.ty) (sources_of d net))) wire ≡ true)
+    × (may_enter d net before wire ≡ true)
+spare_here d net before wire start free =
     let sources : List ℕ = present (map (λ pin. wire_in pin d.ty) (sources_of d net)) in
     let spare : List ℕ = filter (may_enter d net before) sources in
     let there : (among (held_wires d.ty net before) wire || among spare wire) ≡ true
@@ -102,9 +103,20 @@ source_here d net before wire start free =
         ∙ is_among (starts d net before) wire start in
     let passes : among spare wire ≡ true
         = sym (ap (λ b. b || among spare wire) (held_among d.ty net before wire ∙ free)) ∙ there in
+    among_filter (may_enter d net before) sources wire passes
+
+pub source_may : (d : Demand) (net : NetRef) (before : List SiteTree) (wire : ℕ)
+    → Contains (starts d net before) wire → is_held_by d.ty net wire before ≡ false
+    → may_enter d net before wire ≡ true
+source_may d net before wire start free = (spare_here d net before wire start free).1
+
+pub source_here : (d : Demand) (net : NetRef) (before : List SiteTree) (wire : ℕ)
+    → Contains (starts d net before) wire → is_held_by d.ty net wire before ≡ false
+    → IsFoundIn (λ pin. is_that wire (wire_in pin d.ty)) (sources_of d net)
+source_here d net before wire start free =
     found_in (λ pin. is_that wire (wire_in pin d.ty)) (sources_of d net)
     (sym (among_present (λ pin. wire_in pin d.ty) (sources_of d net) wire)
-    ∙ (among_filter (may_enter d net before) sources wire passes).0)
+    ∙ (spare_here d net before wire start free).0)
 
 -- with its source where it needs one, the net holds the wire at which a path starts
 pub source_holds : (d : Demand) (net : NetRef) (before : List SiteTree) (wire : ℕ)
@@ -143,7 +155,7 @@ end_held d net trees now wires from edges to traced held =
         ∙ held
 
 -- the site pin that is found on a wire leads to it
-entry_found : (t : SiteType) (wire pin : ℕ) → entry_on t wire ≡ Some pin
+pub entry_found : (t : SiteType) (wire pin : ℕ) → entry_on t wire ≡ Some pin
     → end_wire t (SitePin pin) ≡ Some wire
 entry_found t wire pin found = is_that_there wire (entry_wire t pin)
     (found_passes (λ x. is_that wire (entry_wire t x)) (range_with_len 0 (length t.pins)) pin found)
@@ -171,7 +183,7 @@ reached_holds d net wire before after (inl is) = inside_holds d net wire before 
 reached_holds d net wire before after (inr is) = outside_holds d net wire before after is
 
 -- sink pins are on their wire
-sinks_on : (d : Demand) (net : NetRef) (wire : ℕ) (pins : List ℕ)
+pub sinks_on : (d : Demand) (net : NetRef) (wire : ℕ) (pins : List ℕ)
     → AllByRecursion (λ pin. wire_in pin d.ty ≡ Some wire)
     (filter (λ pin. is_that wire (wire_in pin d.ty) && is_sink_pin d net pin) pins)
 sinks_on d net wire [] = tt

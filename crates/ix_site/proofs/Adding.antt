@@ -1,19 +1,19 @@
 -- What a turn adds: wires that the net may enter, and to no other net anything.
 use Rattle.std.proofs.Common.{◌≡◌, ◌⊎◌, ℕ, List, [], ◌∷◌, ◌++◌, Bool, true, false, cond, not, ◌&&◌}
-use Rattle.std.proofs.Common.{◌||◌, nat_eq, Option, Some, None, inl, inr, Contains, refl, sym, ap}
+use Rattle.std.proofs.Common.{◌||◌, nat_eq, Some, None, inl, inr, refl, sym, ap}
 use Rattle.std.proofs.Common.{subst, ◌∙◌, unwrap_or, arith}
 use Rattle.std.proofs.Common.{length, map}
-use Rattle.std.specs.List.{filter, list_any, range_with_len, AllByRecursion}
+use Rattle.std.specs.List.{range_with_len, AllByRecursion}
 use Rattle.std.proofs.lemmas.Bool.{eqb-true, false≢true}
 use Rattle.std.proofs.lemmas.Option.{none-some}
 use Rattle.ix_num.specs.declared.resource.NetRef.{NetRef}
 use Rattle.ix_num.specs.declared.resource.NetRef.TheVariants.{Gnd, Vcc, Signal}
 use Rattle.ix_rec.specs.declared.device.SiteType.{SiteType}
 use Rattle.ix_rec.specs.declared.flow.SiteSegment.{SiteSegment}
-use Rattle.ix_rec.specs.declared.flow.SiteSegment.TheVariants.{BelPin, SitePin, SitePip}
+use Rattle.ix_rec.specs.declared.flow.SiteSegment.TheVariants.{BelPin, SitePin}
 use Rattle.ix_rec.specs.declared.flow.SiteTree.{SiteTree}
 use Rattle.ix_lut.specs.Items.{same_net}
-use Rattle.ix_least.specs.Walks.{Way, IsLeastPath, IsTraced}
+use Rattle.ix_least.specs.Walks.{Way, IsLeastPath}
 use Rattle.ix_site.specs.Filled.{is_that}
 use Rattle.ix_device.specs.Lookups.{wire_in}
 use Rattle.ix_device.specs.Elements.{present}
@@ -21,7 +21,7 @@ use Rattle.ix_site.specs.Wants.{want_at}
 use Rattle.ix_site.specs.Trees.{end_wire, entry_wire, is_in_tree, is_held, is_held_by, root}
 use Rattle.ix_site.specs.Trees.{with_segment, with_path, with_bel_pins}
 use Rattle.ix_site.specs.Demands.{Demand, sources_of, suits}
-use Rattle.ix_site.specs.Wiring.{way_from, cost_at, may_enter, starts, source_on, with_root}
+use Rattle.ix_site.specs.Wiring.{way_from, may_enter, starts, source_on, with_root}
 use Rattle.ix_site.specs.Wiring.{with_source, entries_of, IsReachedInside, IsReachedFromOutside}
 use Rattle.ix_site.specs.Wiring.{IsReached, sink_pins, IsTurn}
 use Rattle.ix_site.proofs.Growing.{IsOther, others_kept}
@@ -88,8 +88,10 @@ path_adds d net before now wires to path least held adds who wire holds =
   where
     after : List SiteTree
     after = with_path d.ty net path.source path.edges now
+
     plain : IsPlainWay (way_from d net before wires) path
     plain = plain_way (way_from d net before wires) (costs_some d net before wires) to path least
+
     mine : IsHolding d.ty net wire after
         → IsHolding d.ty net wire before ⊎ ((net ≡ net) × (may_enter d net before wire ≡ true))
     mine has = either (is_entered wire path.edges) refl
@@ -97,11 +99,13 @@ path_adds d net before now wires to path least held adds who wire holds =
         led : (is_entered wire path.edges || is_held_by d.ty net wire now) ≡ true
         led = sym (path_held d.ty net path.source path.edges now wire
             (traced_leads d net before wires path.source path.edges to least.traced) held) ∙ has
+
         either : (c : Bool) → is_entered wire path.edges ≡ c
             → IsHolding d.ty net wire before
             ⊎ ((net ≡ net) × (may_enter d net before wire ≡ true))
         either true is = inr (refl, entered_may d net before wires path.edges wire plain.past is)
         either false is = adds net wire (sym (ap (λ b. b || is_held_by d.ty net wire now) is) ∙ led)
+
     by : (c : Bool) → same_net who net ≡ c
         → IsHolding d.ty who wire before ⊎ ((who ≡ net) × (may_enter d net before wire ≡ true))
     by true is = subst (λ x. IsHolding d.ty x wire after → IsHolding d.ty x wire before
@@ -121,11 +125,16 @@ root_adds d net stub segment wire before leads may who other holds =
     either : (is_held_by d.ty who other before
         || (same_net net who && is_that other (end_wire d.ty segment))) ≡ true
     either = sym (root_held d.ty who net stub segment before other) ∙ holds
+
     parts : (a : Bool) → same_net net who ≡ a → (a && is_that other (end_wire d.ty segment)) ≡ true
         → (who ≡ net) × (may_enter d net before other ≡ true)
-    parts true is e = (sym (same_net_is net who is), subst (λ w. may_enter d net before w ≡ true)
-        (sym (eqb-true other wire (sym (ap (is_that other) leads) ∙ e))) may)
+    parts true is e = (
+      sym (same_net_is net who is),
+      subst (λ w. may_enter d net before w ≡ true)
+          (sym (eqb-true other wire (sym (ap (is_that other) leads) ∙ e))) may,
+    )
     parts false is e = absurd (false≢true e)
+
     by : (c : Bool) → is_held_by d.ty who other before ≡ c
         → IsHolding d.ty who other before
         ⊎ ((who ≡ net) × (may_enter d net before other ≡ true))
@@ -145,7 +154,7 @@ inside_adds d net wire before after is = subst (AddsOnly d net before) is.trees
     by true held = λ who other holds. inl holds
     by false free =
         let source : IsFoundIn (λ pin. is_that is.path.source (wire_in pin d.ty)) (sources_of d net)
-            = source_here d net before is.path.source is.least.source free in
+        = source_here d net before is.path.source is.least.source free in
         subst (λ o. AddsOnly d net before (with_root net o before)) (sym source.found)
         (root_adds d net false (BelPin source.item) is.path.source before
         (is_that_there is.path.source (wire_in source.item d.ty) source.passes)
@@ -163,6 +172,7 @@ outside_adds d net wire before after is = subst (AddsOnly d net before) is.trees
   where
     all : List ℕ
     all = present (map (entry_wire d.ty) (range_with_len 0 (length d.ty.pins)))
+
     leads : end_wire d.ty (SitePin is.pin) ≡ Some is.path.source
     leads = entry_found d.ty is.path.source is.pin is.pin_is
 
@@ -188,6 +198,7 @@ turn_adds d net wire before after turn = subst (AddsOnly d net before) turn.pins
   where
     pins : List ℕ
     pins = sink_pins d net wire
+
     by : (who : NetRef) (other : ℕ) (c : Bool) → same_net who net ≡ c
         → IsHolding d.ty who other (with_bel_pins d.ty net wire pins turn.between)
         → IsHolding d.ty who other turn.between
@@ -236,12 +247,14 @@ clean_after d net before after adds clean = record {
     parts : (wire : ℕ) → may_enter d net before wire ≡ true
         → (suits net (want_at d.wants wire) ≡ true) × (is_held d.ty wire before ≡ false)
     parts wire may = may_parts (suits net (want_at d.wants wire)) (is_held d.ty wire before) may
+
     suited : (who : NetRef) (wire : ℕ) → IsHolding d.ty who wire before
         ⊎ ((who ≡ net) × (may_enter d net before wire ≡ true))
         → suits who (want_at d.wants wire) ≡ true
     suited who wire (inl old) = clean.suited who wire old
     suited who wire (inr new) = ap (λ n. suits n (want_at d.wants wire)) new.0
         ∙ (parts wire new.1).0
+
     one : (who other : NetRef) (wire : ℕ) → IsHolding d.ty who wire before
         ⊎ ((who ≡ net) × (may_enter d net before wire ≡ true))
         → IsHolding d.ty other wire before

@@ -1,8 +1,8 @@
 -- Site PIPs as the edges of a site's graph.
-use Rattle.std.proofs.Common.{◌≡◌, ℕ, List, [], ◌∷◌, ◌++◌, length, slice_get, Bool, true, false, cond}
+use Rattle.std.proofs.Common.{◌≡◌, ℕ, List, [], ◌∷◌, length, slice_get, Bool, true, false, cond}
 use Rattle.std.proofs.Common.{nat_eq, nat_lt, Option, Some, None, option_map, option_and_then}
 use Rattle.std.proofs.Common.{unwrap_or}
-use Rattle.std.proofs.Common.{Contains, All, refl, sym, ap, subst, ◌∙◌, arith}
+use Rattle.std.proofs.Common.{Contains, All, refl, sym, ap, subst, ◌∙◌}
 use Rattle.std.specs.List.{find, flat_map, position, position_or_len, range_with_len}
 use Rattle.std.proofs.lemmas.Bool.{false≢true, eqb-true}
 use Rattle.std.proofs.lemmas.Option.{none-some}
@@ -62,6 +62,7 @@ pips_are t from = all_mapped (IsEdge t from) (λ pip. edge_if from pip
         → All (IsEdge t from) (edge_if from pip (option_and_then (wires_joined t pip) o))
     of pip None at = All-nil (IsEdge t from)
     of pip (Some p) at = edge_is t from pip p (wires_joined t pip p) at refl
+
     each : (pip : ℕ) → All (IsEdge t from) (edge_if from pip
         (option_and_then (wires_joined t pip) (slice_get t.site_pips pip)))
     each pip = of pip (slice_get t.site_pips pip) refl
@@ -79,7 +80,7 @@ edges_differ t from other edge to end one two =
     let b : IsEdge t other (edge, end) = edge_of t other (edge, end) two in
     let same_pip : a.pip ≡ b.pip = some_same a.pip b.pip (sym a.pip_is ∙ b.pip_is) in
     let same : (from, to) ≡ (other, end) = some_same (from, to) (other, end) (sym a.joined
-        ∙ ap (wires_joined t edge) same_pip ∙ b.joined) in
+    ∙ ap (wires_joined t edge) same_pip ∙ b.joined) in
     (ap (λ x. x.0) same, ap (λ x. x.1) same)
 
 pub ways_by_number : (d : Demand) (net : NetRef) (trees : List SiteTree) (wires : List ℕ)
@@ -124,14 +125,15 @@ joins t edge pip from to e = by (is_that edge (position (λ q. nat_eq q.inpin pi
     found : Option (ℕ × ℕ)
     found = both (wire_in pip.inpin t)
         (option_and_then (λ pin. wire_in pin t) (site_pip_from pip.inpin t))
+
     by : (c : Bool) → is_that edge (position (λ q. nat_eq q.inpin pip.inpin) t.site_pips) ≡ c
         → Joins t edge pip from to
     by true is =
         let parts : (wire_in pip.inpin t ≡ Some from)
-            × (option_and_then (λ pin. wire_in pin t) (site_pip_from pip.inpin t) ≡ Some to)
-            = both_parts (wire_in pip.inpin t)
-            (option_and_then (λ pin. wire_in pin t) (site_pip_from pip.inpin t)) from to
-            (sym (ap (λ b. cond b found None) is) ∙ e) in
+        × (option_and_then (λ pin. wire_in pin t) (site_pip_from pip.inpin t) ≡ Some to)
+        = both_parts (wire_in pip.inpin t)
+        (option_and_then (λ pin. wire_in pin t) (site_pip_from pip.inpin t)) from to
+        (sym (ap (λ b. cond b found None) is) ∙ e) in
         record {
           first = is_that_there edge (position (λ q. nat_eq q.inpin pip.inpin) t.site_pips) is;
           starts = parts.0;
@@ -152,11 +154,11 @@ edge_end t from edge to is =
     let how : Joins t edge is.pip from to = joins t edge is.pip from to is.joined in
     let pips : Option SitePipSeen = find (λ q. nat_eq q.inpin is.pip.inpin) t.site_pips in
     let here : pips ≡ Some is.pip = find_first (λ q. nat_eq q.inpin is.pip.inpin) t.site_pips edge
-        how.first ∙ is.pip_is in
+    how.first ∙ is.pip_is in
     ap (option_and_then (λ p. wire_in p.outpin t)) is.pip_is
     ∙ leads_out t is.pip.inpin is.pip.outpin to (is_usable_from t is.pip.inpin)
-      (sym (ap (λ o. option_and_then (λ q. wire_in q t) (cond (is_usable_from t is.pip.inpin)
-      (option_map (λ p. p.outpin) o) None)) here) ∙ how.leads)
+    (sym (ap (λ o. option_and_then (λ q. wire_in q t) (cond (is_usable_from t is.pip.inpin)
+    (option_map (λ p. p.outpin) o) None)) here) ∙ how.leads)
 
 -- its ends are the wires that the edge joins
 pub edge_ends : (t : SiteType) (from edge to : ℕ) → IsEdge t from (edge, to)

@@ -1,5 +1,5 @@
 -- What trees hold as they grow.
-use Rattle.std.proofs.Common.{◌≡◌, ℕ, ◌+◌, List, [], ◌∷◌, ◌++◌, map, Bool, true, false, cond, ◌&&◌}
+use Rattle.std.proofs.Common.{◌≡◌, ℕ, ◌+◌, List, [], ◌∷◌, map, Bool, true, false, cond, ◌&&◌}
 use Rattle.std.proofs.Common.{◌||◌, nat_eq, nat_lt, Option, Some, None, refl, sym, ap, ◌∙◌}
 use Rattle.std.specs.List.{list_any}
 use Rattle.std.proofs.lemmas.Bool.{false≢true}
@@ -124,15 +124,16 @@ hung_of t net from wire item tree = by (same_net tree.net net) refl
   where
     grown : SiteTree
     grown = record tree { segments = hung t from item tree.segments }
+
     by : (c : Bool) → same_net tree.net net ≡ c → has_of t net wire (cond c grown tree)
         ≡ ((has_of t net from tree && is_that wire (end_wire t item)) || has_of t net wire tree)
     by true is = ap (λ x. x && has t wire grown.segments) is
         ∙ hung_or_not t from wire item tree.segments
         ∙ sym (ap (λ x. ((x && is_in_tree t from tree) && is_that wire (end_wire t item))
-            || (x && is_in_tree t wire tree)) is)
+        || (x && is_in_tree t wire tree)) is)
     by false is = ap (λ x. x && is_in_tree t wire tree) is
         ∙ sym (ap (λ x. ((x && is_in_tree t from tree) && is_that wire (end_wire t item))
-            || (x && is_in_tree t wire tree)) is)
+        || (x && is_in_tree t wire tree)) is)
 
 gather : (p q e a b : Bool) → (((p && e) || a) || ((q && e) || b)) ≡ (((p || q) && e) || (a || b))
 gather true q true a b = refl
@@ -151,9 +152,9 @@ segment_held t net from wire item (tree ∷ trees) =
     ap (λ x. x || is_held_by t net wire (with_segment t net from item trees))
     (hung_of t net from wire item tree)
     ∙ ap (λ x. ((has_of t net from tree && is_that wire (end_wire t item))
-        || has_of t net wire tree) || x) (segment_held t net from wire item trees)
+    || has_of t net wire tree) || x) (segment_held t net from wire item trees)
     ∙ gather (has_of t net from tree) (is_held_by t net from trees)
-      (is_that wire (end_wire t item)) (has_of t net wire tree) (is_held_by t net wire trees)
+    (is_that wire (end_wire t item)) (has_of t net wire tree) (is_held_by t net wire trees)
 
 -- a net that no tree shares with this one
 abbrev pub IsOther : NetRef → NetRef → Type 0
@@ -171,6 +172,7 @@ others_kept t net other from wire item (tree ∷ trees) differs =
   where
     grown : SiteTree
     grown = record tree { segments = hung t from item tree.segments }
+
     kept : (c d : Bool) → same_net tree.net net ≡ c → same_net tree.net other ≡ d
         → has_of t other wire (cond c grown tree) ≡ has_of t other wire tree
     kept false d is at = refl

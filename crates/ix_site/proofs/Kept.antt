@@ -1,8 +1,7 @@
 -- What a net holds it goes on holding, and all that it wants it holds at the end.
 use Rattle.std.proofs.Common.{◌≡◌, ℕ, List, [], ◌∷◌, ◌++◌, map, Bool, true, false, cond, ◌&&◌, ◌||◌}
-use Rattle.std.proofs.Common.{Option, Some, None, inl, inr, refl, sym, ap, subst, ◌∙◌}
+use Rattle.std.proofs.Common.{Option, Some, None, inl, inr, refl, ap, subst, ◌∙◌}
 use Rattle.std.specs.List.{list_any, AllByRecursion}
-use Rattle.std.proofs.lemmas.Bool.{false≢true}
 use Rattle.ix_num.specs.declared.resource.NetRef.{NetRef}
 use Rattle.ix_rec.specs.declared.device.SiteType.{SiteType}
 use Rattle.ix_rec.specs.declared.flow.SiteSegment.{SiteSegment}
@@ -10,7 +9,7 @@ use Rattle.ix_rec.specs.declared.flow.SiteSegment.TheVariants.{BelPin, SitePin, 
 use Rattle.ix_rec.specs.declared.flow.SiteTree.{SiteTree}
 use Rattle.ix_lut.specs.Items.{same_net}
 use Rattle.ix_site.specs.Filled.{is_that}
-use Rattle.ix_site.specs.Trees.{end_wire, hung, hung_in, is_in_tree, is_held_by, root}
+use Rattle.ix_site.specs.Trees.{end_wire, hung, hung_in, is_held_by, root}
 use Rattle.ix_site.specs.Trees.{with_segment, with_path, with_bel_pins}
 use Rattle.ix_site.specs.Demands.{Demand, driver_of, wanted_wires}
 use Rattle.ix_site.specs.Wiring.{BeginsAt, source_on, with_root, with_source, IsReached, IsTurn}
@@ -44,12 +43,14 @@ tree_keeps t who net from wire item tree held = by (same_net tree.net net)
   where
     grown : SiteTree
     grown = record tree { segments = hung t from item tree.segments }
+
     of : (s : Bool) → (s && has t wire tree.segments) ≡ true
         → (s && has t wire (hung t from item tree.segments)) ≡ true
     of true e = hung_or_not t from wire item tree.segments
         ∙ ap (λ b. (has t from tree.segments && is_that wire (end_wire t item)) || b) e
         ∙ or_true (has t from tree.segments && is_that wire (end_wire t item))
     of false e = e
+
     by : (c : Bool) → has_of t who wire (cond c grown tree) ≡ true
     by true = of (same_net tree.net who) held
     by false = held
@@ -90,6 +91,7 @@ source_keeps d who net at wire trees held = by (is_held_by d.ty net at trees)
     of : (o : Option ℕ) → IsHolding d.ty who wire (with_root net o trees)
     of None = held
     of (Some pin) = root_keeps d.ty who net false (BelPin pin) wire trees held
+
     by : (c : Bool)
         → IsHolding d.ty who wire (cond c trees (with_root net (source_on d net at) trees))
     by true = held
@@ -177,10 +179,11 @@ pub turns_hold : (d : Demand) (net : NetRef) (wires : List ℕ) (before after : 
     → AllByRecursion (λ wire. IsHolding d.ty net wire after) wires
 unfolding AreTurns
 turns_hold d net [] before after turns = tt
-turns_hold d net (wire ∷ wires) before after turns =
-    (turns_keep d net net wire wires turns.0 after turns.2
-    (turn_holds d net wire before turns.0 turns.1),
-    turns_hold d net wires turns.0 after turns.2)
+turns_hold d net (wire ∷ wires) before after turns = (
+  turns_keep d net net wire wires turns.0 after turns.2
+      (turn_holds d net wire before turns.0 turns.1),
+  turns_hold d net wires turns.0 after turns.2,
+)
 
 pub net_holds : (d : Demand) (net : NetRef) (before after : List SiteTree)
     → IsWired d net before after
@@ -196,8 +199,9 @@ pub nets_hold : (d : Demand) (nets : List NetRef) (before after : List SiteTree)
     (wanted_wires d net)) nets
 unfolding AreWired
 nets_hold d [] before after wired = tt
-nets_hold d (net ∷ nets) before after wired =
-    (more_keep d.ty net (wanted_wires d net) wired.0 after
-    (λ wire held. nets_keep d net wire nets wired.0 after wired.2 held)
-    (net_holds d net before wired.0 wired.1),
-    nets_hold d nets wired.0 after wired.2)
+nets_hold d (net ∷ nets) before after wired = (
+  more_keep d.ty net (wanted_wires d net) wired.0 after
+      (λ wire held. nets_keep d net wire nets wired.0 after wired.2 held)
+      (net_holds d net before wired.0 wired.1),
+  nets_hold d nets wired.0 after wired.2,
+)

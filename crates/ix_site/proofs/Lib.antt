@@ -6,3 +6,4 @@ pub mod Members
 pub mod Turns
 pub mod Kept
 pub mod Adding
+pub mod Clean

@@ -1,6 +1,6 @@
 -- Members of lists of wires, as tests.
-use Rattle.std.proofs.Common.{◌≡◌, ℕ, List, [], ◌∷◌, ◌++◌, map, Bool, true, false, cond, ◌&&◌, ◌||◌}
-use Rattle.std.proofs.Common.{nat_eq, Option, Some, None, Contains, All, refl, sym, ap, subst, ◌∙◌}
+use Rattle.std.proofs.Common.{◌≡◌, ℕ, List, [], ◌∷◌, ◌++◌, map, Bool, true, false, cond, ◌||◌}
+use Rattle.std.proofs.Common.{nat_eq, Option, Some, None, Contains, refl, sym, ap, ◌∙◌}
 use Rattle.std.specs.List.{filter, find, list_any, AllByRecursion}
 use Rattle.std.proofs.lemmas.Bool.{eq-eqb, eqb-true, false≢true}
 use Rattle.std.proofs.lemmas.List.Elements.{All-contains, All-from_recursion}
@@ -50,6 +50,7 @@ among_filter p (y ∷ xs) x e = by (p y) refl e (among_filter p xs x)
         either : (c : Bool) → among xs x ≡ true → (c || among xs x) ≡ true
         either true h = refl
         either false h = h
+
     by : (c : Bool) → p y ≡ c → among (cond c (y ∷ filter p xs) (filter p xs)) x ≡ true
         → (among (filter p xs) x ≡ true → (among xs x ≡ true) × (p x ≡ true))
         → (among (y ∷ xs) x ≡ true) × (p x ≡ true)

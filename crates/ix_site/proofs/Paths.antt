@@ -1,14 +1,13 @@
 -- What a net holds after a path.
 use Rattle.std.proofs.Common.{◌≡◌, ℕ, List, [], ◌∷◌, Bool, true, false, ◌&&◌, ◌||◌, nat_eq, Some}
-use Rattle.std.proofs.Common.{None, Contains, refl, sym, ap, subst, ◌∙◌}
+use Rattle.std.proofs.Common.{refl, sym, ap, ◌∙◌}
 use Rattle.std.specs.List.{list_any, AllByRecursion}
 use Rattle.std.proofs.lemmas.Bool.{eq-eqb, eqb-true, false≢true}
 use Rattle.ix_num.specs.declared.resource.NetRef.{NetRef}
 use Rattle.ix_rec.specs.declared.device.SiteType.{SiteType}
-use Rattle.ix_rec.specs.declared.flow.SiteSegment.{SiteSegment}
 use Rattle.ix_rec.specs.declared.flow.SiteSegment.TheVariants.{BelPin, SitePip}
 use Rattle.ix_rec.specs.declared.flow.SiteTree.{SiteTree}
-use Rattle.ix_least.specs.Walks.{IsTraced, IsLastEdge}
+use Rattle.ix_least.specs.Walks.{IsTraced}
 use Rattle.ix_device.specs.Lookups.{wire_in}
 use Rattle.ix_site.specs.Filled.{is_that}
 use Rattle.ix_site.specs.Trees.{end_wire, is_held_by, with_segment, with_path, with_bel_pins}
@@ -27,9 +26,10 @@ pub traced_leads : (d : Demand) (net : NetRef) (trees : List SiteTree) (wires : 
     → LeadOn d.ty from edges
 unfolding IsTraced
 traced_leads d net trees wires from [] to traced = tt
-traced_leads d net trees wires from (edge ∷ edges) to traced =
-    (edge_of d.ty from edge traced.0.tied.step.leads,
-    traced_leads d net trees wires edge.1 edges to traced.1)
+traced_leads d net trees wires from (edge ∷ edges) to traced = (
+  edge_of d.ty from edge traced.0.tied.step.leads,
+  traced_leads d net trees wires edge.1 edges to traced.1,
+)
 
 -- a point is entered by one of these edges
 abbrev pub is_entered : ℕ → List (ℕ × ℕ) → Bool
@@ -55,11 +55,12 @@ path_held t net from (edge ∷ edges) trees wire lead held =
   where
     grown : List SiteTree
     grown = with_segment t net from (SitePip edge.0) trees
+
     now : (w : ℕ) → is_held_by t net w grown ≡ (nat_eq w edge.1 || is_held_by t net w trees)
     now w = segment_held t net from w (SitePip edge.0) trees
         ∙ ap (λ b. (b && is_that w (end_wire t (SitePip edge.0))) || is_held_by t net w trees) held
         ∙ ap (λ o. is_that w o || is_held_by t net w trees)
-          (edge_end t from edge.0 edge.1 lead.0)
+        (edge_end t from edge.0 edge.1 lead.0)
 
 -- and other nets hold what they held
 pub path_keeps_others : (t : SiteType) (net other : NetRef) (from : ℕ) (edges : List (ℕ × ℕ))
@@ -101,16 +102,19 @@ pins_held t net wire (pin ∷ pins) trees other on held =
   where
     grown : List SiteTree
     grown = with_segment t net wire (BelPin pin) trees
+
     step : (w : ℕ) → is_held_by t net w grown ≡ (nat_eq w wire || is_held_by t net w trees)
     step w = segment_held t net wire w (BelPin pin) trees
         ∙ ap (λ b. (b && is_that w (end_wire t (BelPin pin))) || is_held_by t net w trees) held
         ∙ ap (λ o. is_that w o || is_held_by t net w trees) on.0
+
     now : (w : ℕ) → is_held_by t net w trees ≡ true → is_held_by t net w grown ≡ true
     now w has = step w ∙ ap (λ b. nat_eq w wire || b) has ∙ or_true (nat_eq w wire)
       where
         or_true : (a : Bool) → (a || true) ≡ true
         or_true true = refl
         or_true false = refl
+
     same : (w : ℕ) → is_held_by t net w grown ≡ is_held_by t net w trees
     same w = step w ∙ by (nat_eq w wire) refl
       where

@@ -1,9 +1,9 @@
 -- A wanted wire is held after its turn.
-use Rattle.std.proofs.Common.{◌≡◌, ℕ, List, [], ◌∷◌, ◌++◌, length, map, Bool, true, false, cond, not}
+use Rattle.std.proofs.Common.{◌≡◌, ℕ, List, [], ◌∷◌, ◌++◌, length, map, Bool, true, false, cond}
 use Rattle.std.proofs.Common.{◌&&◌, ◌||◌, nat_eq, Option, Some, None, Contains, inl, inr, refl, sym}
 use Rattle.std.proofs.Common.{ap, subst, ◌∙◌}
-use Rattle.std.specs.List.{filter, find, flat_map, list_any, range_with_len, AllByRecursion}
-use Rattle.std.proofs.lemmas.Bool.{eq-eqb, eqb-true, false≢true}
+use Rattle.std.specs.List.{filter, flat_map, range_with_len, AllByRecursion}
+use Rattle.std.proofs.lemmas.Bool.{eq-eqb, eqb-true}
 use Rattle.std.proofs.lemmas.List.Concat.{flat_map-cons}
 use Rattle.ix_num.specs.declared.resource.NetRef.{NetRef}
 use Rattle.ix_num.specs.declared.resource.NetRef.TheVariants.{Gnd, Vcc, Signal}
@@ -12,12 +12,12 @@ use Rattle.ix_rec.specs.declared.flow.SiteSegment.{SiteSegment}
 use Rattle.ix_rec.specs.declared.flow.SiteSegment.TheVariants.{BelPin, SitePin}
 use Rattle.ix_rec.specs.declared.flow.SiteTree.{SiteTree}
 use Rattle.ix_lut.specs.Items.{same_net}
-use Rattle.ix_least.specs.Walks.{IsLeastPath, IsTraced}
+use Rattle.ix_least.specs.Walks.{IsTraced}
 use Rattle.ix_device.specs.Lookups.{wire_in}
 use Rattle.ix_device.specs.Elements.{present}
 use Rattle.ix_site.specs.Filled.{is_that}
 use Rattle.ix_site.specs.Trees.{end_wire, entry_wire, wires_of, is_in_tree, is_held_by, held_wires}
-use Rattle.ix_site.specs.Trees.{root, with_path, with_bel_pins}
+use Rattle.ix_site.specs.Trees.{root, with_path}
 use Rattle.ix_site.specs.Demands.{Demand, sources_of}
 use Rattle.ix_site.specs.Wiring.{way_from, may_enter, starts, source_on, with_root, with_source}
 use Rattle.ix_site.specs.Wiring.{entry_on, entries_of, IsReachedInside, IsReachedFromOutside, IsReached}
@@ -57,6 +57,7 @@ held_among t net (tree ∷ trees) wire =
   where
     of : SiteTree → List ℕ
     of x = cond (same_net x.net net) (wires_of t x) []
+
     by : (c : Bool) → same_net tree.net net ≡ c
         → among (cond c (wires_of t tree) []) wire ≡ has_of t net wire tree
     by true is = sym (ap (λ b. b && is_in_tree t wire tree) is)
@@ -77,7 +78,7 @@ root_held t net other stub segment [] wire =
 root_held t net other stub segment (tree ∷ trees) wire =
     ap (λ b. has_of t net wire tree || b) (root_held t net other stub segment trees wire)
     ∙ or_assoc (has_of t net wire tree) (is_held_by t net wire trees)
-      (same_net other net && is_that wire (end_wire t segment))
+    (same_net other net && is_that wire (end_wire t segment))
 
 -- a tree that begins at this wire makes its net hold it
 pub root_holds : (t : SiteType) (net : NetRef) (stub : Bool) (segment : SiteSegment)
@@ -85,7 +86,7 @@ pub root_holds : (t : SiteType) (net : NetRef) (stub : Bool) (segment : SiteSegm
     → is_held_by t net wire (trees ++ root net stub segment ∷ []) ≡ true
 root_holds t net stub segment trees wire leads = root_held t net net stub segment trees wire
     ∙ ap (λ b. is_held_by t net wire trees || (b && is_that wire (end_wire t segment)))
-      (same_net_self net)
+    (same_net_self net)
     ∙ ap (λ o. is_held_by t net wire trees || is_that wire o) leads
     ∙ ap (λ b. is_held_by t net wire trees || b) (eq-eqb wire wire refl)
     ∙ or_true (is_held_by t net wire trees)
@@ -99,10 +100,10 @@ spare_here d net before wire start free =
     let sources : List ℕ = present (map (λ pin. wire_in pin d.ty) (sources_of d net)) in
     let spare : List ℕ = filter (may_enter d net before) sources in
     let there : (among (held_wires d.ty net before) wire || among spare wire) ≡ true
-        = sym (among_append (held_wires d.ty net before) spare wire)
-        ∙ is_among (starts d net before) wire start in
+    = sym (among_append (held_wires d.ty net before) spare wire)
+    ∙ is_among (starts d net before) wire start in
     let passes : among spare wire ≡ true
-        = sym (ap (λ b. b || among spare wire) (held_among d.ty net before wire ∙ free)) ∙ there in
+    = sym (ap (λ b. b || among spare wire) (held_among d.ty net before wire ∙ free)) ∙ there in
     among_filter (may_enter d net before) sources wire passes
 
 pub source_may : (d : Demand) (net : NetRef) (before : List SiteTree) (wire : ℕ)
@@ -130,10 +131,10 @@ source_holds d net before wire start = by (is_held_by d.ty net wire before) refl
     by true is = is
     by false is =
         let source : IsFoundIn (λ pin. is_that wire (wire_in pin d.ty)) (sources_of d net)
-            = source_here d net before wire start is in
+        = source_here d net before wire start is in
         ap (λ o. is_held_by d.ty net wire (with_root net o before)) source.found
         ∙ root_holds d.ty net false (BelPin source.item) before wire
-          (is_that_there wire (wire_in source.item d.ty) source.passes)
+        (is_that_there wire (wire_in source.item d.ty) source.passes)
 
 -- a path from a wire that the net holds ends in one that it holds
 end_held : (d : Demand) (net : NetRef) (trees now : List SiteTree) (wires : List ℕ)
@@ -151,7 +152,7 @@ end_held d net trees now wires from edges to traced held =
     by true is e = ap (λ b. b || is_held_by d.ty net to now) is
     by false is e = ap (λ b. b || is_held_by d.ty net to now) is
         ∙ ap (λ x. is_held_by d.ty net x now)
-          (eqb-true to from (sym (ap (λ b. b || nat_eq to from) is) ∙ e))
+        (eqb-true to from (sym (ap (λ b. b || nat_eq to from) is) ∙ e))
         ∙ held
 
 -- the site pin that is found on a wire leads to it
@@ -192,6 +193,7 @@ sinks_on d net wire (pin ∷ pins) = by (is_that wire (wire_in pin d.ty)) (is_si
   where
     rest : List ℕ
     rest = filter (λ x. is_that wire (wire_in x d.ty) && is_sink_pin d net x) pins
+
     by : (a b : Bool) → is_that wire (wire_in pin d.ty) ≡ a
         → AllByRecursion (λ x. wire_in x d.ty ≡ Some wire) rest
         → AllByRecursion (λ x. wire_in x d.ty ≡ Some wire) (cond (a && b) (pin ∷ rest) rest)
@@ -204,7 +206,7 @@ pub turn_holds : (d : Demand) (net : NetRef) (wire : ℕ) (before after : List S
     → IsTurn d net wire before after → is_held_by d.ty net wire after ≡ true
 turn_holds d net wire before after turn =
     let held : is_held_by d.ty net wire turn.between ≡ true
-        = reached_holds d net wire before turn.between turn.reached in
+    = reached_holds d net wire before turn.between turn.reached in
     subst (λ trees. is_held_by d.ty net wire trees ≡ true) turn.pins
     (pins_held d.ty net wire (sink_pins d net wire) turn.between wire
     (sinks_on d net wire (range_with_len 0 (length d.ty.bel_pins))) held ∙ held)

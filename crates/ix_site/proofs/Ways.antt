@@ -1,8 +1,8 @@
 -- Least paths enter no point twice, and no source.
-use Rattle.std.proofs.Common.{◌≡◌, ◌≢◌, ℕ, ◌+◌, ◌<◌, ◌≤◌, List, [], ◌∷◌, Contains, Option, Some}
-use Rattle.std.proofs.Common.{refl, sym, ap, subst, ◌∙◌, arith}
+use Rattle.std.proofs.Common.{◌≡◌, ◌≢◌, ℕ, ◌+◌, ◌<◌, ◌≤◌, List, [], ◌∷◌, Contains, Some}
+use Rattle.std.proofs.Common.{refl, subst, arith}
 use Rattle.std.specs.List.{AllByRecursion}
-use Rattle.ix_least.specs.Walks.{Question, Way, IsStep, IsWalk, HasWalk, IsDist, IsTied, IsLastEdge}
+use Rattle.ix_least.specs.Walks.{Question, Way, IsWalk, IsDist, IsTied, IsLastEdge}
 use Rattle.ix_least.specs.Walks.{IsTraced, IsLeastPath}
 
 -- whatever may be entered costs something
@@ -29,15 +29,17 @@ farther : (q : Question) (n m : ℕ) (edges : List (ℕ × ℕ)) → n ≤ m
 farther q n m [] less all = tt
 farther q n m (edge ∷ edges) less all =
     let first : IsPast q m edge = all.0 in
-    let past : m < first.dist = first.past in
-    (record {
-      dist = first.dist;
-      dist_is = first.dist_is;
-      past = omega (arith, less, past);
-      no_source = first.no_source;
-      cost = first.cost;
-      may = first.may;
-    }, farther q n m edges less all.1)
+    let past : m < first.dist = first.past in (
+      record {
+        dist = first.dist;
+        dist_is = first.dist_is;
+        past = omega (arith, less, past);
+        no_source = first.no_source;
+        cost = first.cost;
+        may = first.may;
+      },
+      farther q n m edges less all.1,
+    )
 
 pub rising : (q : Question) → CostsSome q → (from : ℕ) (edges : List (ℕ × ℕ)) (to n : ℕ)
     → IsDist q from n → IsTraced q from edges to → AllByRecursion (IsPast q n) edges
@@ -47,16 +49,18 @@ rising q some from (edge ∷ edges) to n dist traced =
     let last : IsLastEdge q from edge.0 edge.1 = traced.0 in
     let tied : IsTied q from edge.0 edge.1 = last.tied in
     let same : tied.dist ≡ n = dist_once q from tied.dist n tied.from_dist dist in
-    let cost : 1 ≤ tied.cost = some edge.1 tied.cost tied.step.costs in
-    (record {
-      dist = tied.dist + tied.cost;
-      dist_is = tied.to_dist;
-      past = omega (arith, same, cost);
-      no_source = last.no_source;
-      cost = tied.cost;
-      may = tied.step.costs;
-    }, farther q n (tied.dist + tied.cost) edges (omega (arith, same))
-      (rising q some edge.1 edges to (tied.dist + tied.cost) tied.to_dist traced.1))
+    let cost : 1 ≤ tied.cost = some edge.1 tied.cost tied.step.costs in (
+      record {
+        dist = tied.dist + tied.cost;
+        dist_is = tied.to_dist;
+        past = omega (arith, same, cost);
+        no_source = last.no_source;
+        cost = tied.cost;
+        may = tied.step.costs;
+      },
+      farther q n (tied.dist + tied.cost) edges (omega (arith, same))
+          (rising q some edge.1 edges to (tied.dist + tied.cost) tied.to_dist traced.1),
+    )
 
 -- no later edge enters what one enters
 abbrev pub EnterOnce : List (ℕ × ℕ) → Type 0
@@ -68,10 +72,11 @@ apart : (q : Question) (point n : ℕ) (edges : List (ℕ × ℕ)) → IsDist q 
 apart q point n [] dist all = tt
 apart q point n (edge ∷ edges) dist all =
     let first : IsPast q n edge = all.0 in
-    let past : n < first.dist = first.past in
-    (λ same. (let one : first.dist ≡ n = dist_once q point first.dist n
-        (subst (λ p. IsDist q p first.dist) same first.dist_is) dist in omega (arith, past, one)),
-    apart q point n edges dist all.1)
+    let past : n < first.dist = first.past in (
+      λ same. (let one : first.dist ≡ n = dist_once q point first.dist n
+          (subst (λ p. IsDist q p first.dist) same first.dist_is) dist in omega (arith, past, one)),
+      apart q point n edges dist all.1,
+    )
 
 pub enter_once : (q : Question) → CostsSome q → (from : ℕ) (edges : List (ℕ × ℕ)) (to n : ℕ)
     → IsDist q from n → IsTraced q from edges to → EnterOnce edges
@@ -79,9 +84,10 @@ unfolding IsTraced
 enter_once q some from [] to n dist traced = tt
 enter_once q some from (edge ∷ edges) to n dist traced =
     let tied : IsTied q from edge.0 edge.1 = traced.0.tied in
-    let m : ℕ = tied.dist + tied.cost in
-    (apart q edge.1 m edges tied.to_dist (rising q some edge.1 edges to m tied.to_dist traced.1),
-    enter_once q some edge.1 edges to m tied.to_dist traced.1)
+    let m : ℕ = tied.dist + tied.cost in (
+      apart q edge.1 m edges tied.to_dist (rising q some edge.1 edges to m tied.to_dist traced.1),
+      enter_once q some edge.1 edges to m tied.to_dist traced.1,
+    )
 
 -- a source is at no distance
 pub source_dist : (q : Question) (source : ℕ) → Contains q.sources source → IsDist q source 0

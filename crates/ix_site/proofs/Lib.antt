@@ -7,3 +7,4 @@ pub mod Turns
 pub mod Kept
 pub mod Adding
 pub mod Clean
+pub mod Once

@@ -8,3 +8,5 @@ pub mod Kept
 pub mod Adding
 pub mod Clean
 pub mod Once
+pub mod Drivers
+pub mod Sound

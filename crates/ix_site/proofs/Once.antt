@@ -3,10 +3,9 @@ use Rattle.std.proofs.Common.{◌≡◌, ◌⊎◌, ℕ, ◌+◌, ◌<◌, ◌�
 use Rattle.std.proofs.Common.{Some, None, inl, inr, refl, sym, ap, subst, ◌∙◌, arith, unwrap_or}
 use Rattle.std.proofs.lemmas.Bool.{cases_lt, cases_eq}
 use Rattle.ix_num.specs.declared.resource.NetRef.{NetRef}
-use Rattle.ix_rec.specs.declared.device.SiteType.{SiteType}
-use Rattle.ix_rec.specs.declared.flow.SiteSegment.TheVariants.{BelPin, SitePin}
+use Rattle.ix_rec.specs.declared.flow.SiteSegment.TheVariants.{SitePin}
 use Rattle.ix_rec.specs.declared.flow.SiteTree.{SiteTree}
-use Rattle.ix_least.specs.Walks.{Question, Way, IsStep, IsWalk, HasWalk, IsTraced, IsLeastPath}
+use Rattle.ix_least.specs.Walks.{Question, Way, IsWalk, HasWalk, IsTraced, IsLeastPath}
 use Rattle.ix_least.specs.Walks.{LeastPathsAreOne}
 use Rattle.ix_site.specs.Trees.{exit_wire, root, with_path, with_bel_pins, with_segment}
 use Rattle.ix_site.specs.Demands.{Demand, driver_of, wanted_wires}

@@ -1,5 +1,5 @@
 -- From what the code has to the answer.
-use Rattle.std.proofs.Common.{◌≡◌, ◌∙◌, ◌≤◌, ap, sym, inl, inr, ℕ, List, [], ◌∷◌, length, slice_get}
+use Rattle.std.proofs.Common.{◌≡◌, ◌∙◌, ◌≤◌, ◌^◌, ap, sym, inl, inr, ℕ, List, [], ◌∷◌, length, slice_get}
 use Rattle.std.proofs.Common.{Some, None, Ok, Err, true, false, Bool, nat_lt, refl}
 use Rattle.std.proofs.Math.Nat.{not-suc-le_self}
 use borrow.Author.Tests.{ltb-true, ltb-false}
@@ -30,7 +30,7 @@ use Rattle.ix_device_read.specs.Records.{device_record}
 use Rattle.ix_device_read.specs.Reading.{reading_in_segments, IsBadField}
 use Rattle.ix_device_rules.specs.Broken.{IsBreach}
 use Rattle.ix_device_rules.specs.Rules.{first_broken}
-use Rattle.ix_phys_write.specs.Record.{phys_record}
+use Rattle.ix_phys_write.specs.Record.{phys_record, IsPhysNamed}
 use Rattle.ix_job.specs.Job.{Outcome}
 use Rattle.ix_job.specs.Chain.{Meets}
 use Rattle.ix_job.specs.declared.stop.Stop.{Stop}
@@ -127,14 +127,16 @@ design_told d all names rec keeps differ reads named =
 pub flat_told : (rec : DeviceRec) (old names : List Text) (design : NetlistRec) (flat : Flat)
     → KeepsNumbers old names → AllDiffer names → IsFlattened names rec design flat
     → IsInRange rec flat → IsNamed (length names) flat → IsWhole names rec flat
+    → length flat.cells ≤ 2 ^ 22
     → flattened rec (named_design old design) (Ok (named_flat names flat))
-flat_told rec old names design flat keeps differ is range named whole = record {
+flat_told rec old names design flat keeps differ is range named whole most_cells = record {
   keeps = keeps;
   differ = differ;
   flattened = is;
   range = range;
   named = named;
   whole = whole;
+  most_cells = most_cells;
 }
 
 pub broken_told : (rec : DeviceRec) (old names : List Text) (design : NetlistRec) (rule : Rule)
@@ -165,9 +167,10 @@ no_site_told rec names cells k text s is =
     inr record { place = k; cell = text; stuck = s; cell_is = is; report_is = refl }
 
 pub placed_told : FitsHaveOwnPlaces → (rec : DeviceRec) (names : List Text) (cells : List FlatCell)
-    (phys : Phys) → IsFitted rec cells phys → placed rec (named_cells names cells) (Ok phys)
-placed_told own_places rec names cells phys fitted =
-    record { fitted = fitted; own = own_places rec cells phys fitted }
+    (phys : Phys) → IsFitted rec cells phys → IsPhysNamed names phys
+    → placed rec (named_cells names cells) (Ok phys)
+placed_told own_places rec names cells phys fitted named =
+    record { fitted = fitted; own = own_places rec cells phys fitted; named = named }
 
 pub written_told : (names : List Text) (cells : List FlatCell) (phys : Phys) (bytes : List ℕ)
     (outcome : Outcome) → is_too_long phys_netlist (phys_record names phys) ≡ false

@@ -18,7 +18,7 @@ pub returns-in-Ok-clause-flat : goal.returns-in-Ok-clause-flat
 returns-in-Ok-clause-flat c =
     flat_told c.args.device.now c.args.names.now c.flatten.new.names c.args.rec.now c.in-Ok.flat
     c.flatten.ensures.keeps c.len-count.ensures.differ c.in-Ok.ensures.flat c.in-Ok.ensures.range
-    c.in-Ok.ensures.named c.in-Ok.ensures.whole
+    c.in-Ok.ensures.named c.in-Ok.ensures.whole c.in-Ok.ensures.most_cells
 
 pub returns-in-Err-Broken-clause-flat : goal.returns-in-Err-Broken-clause-flat
 returns-in-Err-Broken-clause-flat c =

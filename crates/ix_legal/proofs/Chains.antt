@@ -17,6 +17,7 @@ use Rattle.ix_legal.specs.Sharing.{IsRouted}
 use Rattle.ix_legal.specs.Legal.{Asks, IsFirstBroken, Legal, order}
 use Rattle.ix_legal.specs.Small.{names, device, enters, routed, placed, with_net}
 use Rattle.ix_legal.proofs.Weaker.{routed_placed}
+use Rattle.ix_legal.proofs.Sound.{routed_is_sound, placed_is_sound}
 use Rattle.ix_legal.proofs.Tried.{IsChain, chain, enters_ends, legal, unshared}
 
 -- The depth of a segment of the routed net is its number.
@@ -48,7 +49,7 @@ routed_chain : IsChain routed
 routed_chain = record {
   signal = refl;
   segments = routed_segments;
-  has_source = omega arith;
+  has_source = (omega arith, refl);
   only_root = λ k root. sym (routed_depth k 0 root.1).0;
   stub_root = λ k s at root. let few : k < 4 = (routed_depth k 0 root.1).1 in
       let past : 4 ≤ k = root.0 in absurd (omega (arith, few, past));
@@ -63,7 +64,7 @@ routed_no_stubs (SegmentAt zero (suc (suc (suc zero)))) = omega arith
 routed_no_stubs spot = tt
 
 pub routed_is_legal : Legal Routed names device (with_net routed)
-routed_is_legal = legal routed routed_chain Routed routed_no_stubs
+routed_is_legal = legal routed routed_chain Routed routed_is_sound routed_no_stubs
 
 -- The placed net.
 
@@ -113,14 +114,15 @@ placed_chain : IsChain placed
 placed_chain = record {
   signal = refl;
   segments = placed_segments;
-  has_source = omega arith;
+  has_source = (omega arith, refl);
   only_root = placed_root;
   stub_root = placed_stub;
   parents = placed_parents;
 }
 
 pub placed_is_legal : Legal Placed names device (with_net placed)
-placed_is_legal = legal placed placed_chain Placed (routed_placed (with_net placed))
+placed_is_legal = legal placed placed_chain Placed placed_is_sound
+    (routed_placed (with_net placed))
 
 -- At level routed the rules before L10 are kept, and L10 is up to the stub's root.
 
@@ -154,8 +156,9 @@ kept_before spot less = tt
 pub stub_is_first : IsFirstBroken Routed names device (with_net placed) L10
     (places.Segment (codes "n0") 2)
 stub_is_first = record {
+  sound = placed_is_legal.sound;
   earlier = earlier_kept;
   spot = SegmentAt 0 2;
   first = record { broken = λ h. let lt : 2 < 2 = h in omega (arith, lt); kept_before = kept_before };
-  told = (placed, refl, refl);
+  told = (placed, codes "n0", refl, refl, refl);
 }

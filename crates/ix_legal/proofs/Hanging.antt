@@ -22,7 +22,7 @@ use Rattle.ix_legal.specs.Names.{SegmentHasEnds}
 use Rattle.ix_legal.specs.Trees.{HasSource, IsSource, LeavesParent, RootFits, EntersAlone}
 use Rattle.ix_legal.specs.Sharing.{InSourceTree}
 use Rattle.ix_legal.specs.Laws.{GoesOn, IsWay, Hangs, HasOneRoot, AreTrees}
-use Rattle.ix_legal.proofs.Preorders.{first_within, above}
+use Rattle.ix_legal.proofs.Preorders.{above}
 
 -- A way that goes on once more.
 way_more : (rec : DeviceRec) (net : PhysNet) (from : SegmentNumber) (way : List SegmentNumber)
@@ -149,15 +149,6 @@ module _ (rec : DeviceRec) (phys : Phys) (net : PhysNet) (kept : AreKept rec phy
   hangs k lt = let b = stands (segments net) k lt in
       hangs_at b.0.depth k (ap (option_map (λ (b : Branch Segment). b.depth)) b.1)
 
-  first_is_root : 0 < length net.sources → IsRoot net 0
-  first_is_root lt =
-      let b = stands net.sources 0 lt in
-      let at : slice_get (depths net.sources) 0 ≡ Some b.0.depth =
-      slice_get-map (λ (b : Branch Segment). b.depth) net.sources 0
-      ∙ ap (option_map (λ (b : Branch Segment). b.depth)) b.1 in
-      let within : b.0.depth ≤ 0 = first_within 0 (depths net.sources) b.0.depth kept.preorder at in
-      depth_is 0 ∙ at ∙ ap Some (omega (arith, within))
-
   driver_is_first : (k : SegmentNumber) → net.ty ≡ Signal → IsRoot net k → k ≡ 0
   driver_is_first k is root =
       let b = there k 0 root in
@@ -168,8 +159,7 @@ module _ (rec : DeviceRec) (phys : Phys) (net : PhysNet) (kept : AreKept rec phy
   one_root : (ty : NetType) → net.ty ≡ ty → HasOneRoot ty net
   one_root Signal is = λ k. (
     driver_is_first k is,
-    λ first. subst (IsRoot net) (sym first) (first_is_root (subst (λ ty. HasSource ty net) is
-        kept.has_source)),
+    λ first. subst (IsRoot net) (sym first) (subst (λ ty. HasSource ty net) is kept.has_source).1,
   )
   one_root Gnd is = tt
   one_root Vcc is = tt

@@ -4,5 +4,6 @@ pub mod Hanging
 pub mod Weaker
 pub mod Orders
 pub mod Told
+pub mod Sound
 pub mod Tried
 pub mod Chains

@@ -2,7 +2,7 @@
 -- with the first place.
 use Rattle.std.proofs.Common.{◌≡◌, ◌↔◌, ◌<◌, ◌∙◌, ap, refl, sym, subst, ℕ, zero, suc, inl, inr}
 use Rattle.std.proofs.Common.{List}
-use Rattle.std.specs.Prelude.{Option, Some, None}
+use Rattle.std.specs.Prelude.{Option, Some, None, slice_get}
 use Rattle.std.proofs.lemmas.Bool.{cases_order}
 use Rattle.std.proofs.lemmas.Option.{same_Some}
 use Rattle.ix_message.specs.Shape.{Text}
@@ -17,7 +17,6 @@ use Rattle.ix_rec.specs.declared.place.Place.TheVariants as places
 use Rattle.ix_rec.specs.declared.place.Rule.{Rule}
 use Rattle.ix_rec.specs.declared.place.Rule.TheVariants.{L1, L2, L3, L4, L5, L6, L7, L8, L9, L10}
 use Rattle.ix_legal.specs.declared.level.Level.{Level}
-use Rattle.ix_legal.specs.TableKeys.{text_of}
 use Rattle.ix_legal.specs.Spots.{Spot, InstanceAt, PlacementAt, NetAt, SegmentAt, PropertyAt}
 use Rattle.ix_legal.specs.Spots.{ElementAt}
 use Rattle.ix_legal.specs.Legal.{Asks, IsAnswer, IsFirstBroken, IsPlaceOf, Legal, order}
@@ -69,23 +68,29 @@ rule_back level names rec phys rule spot broken = absurd (broken tt)
 one_place : (names : List Text) (phys : Phys) (spot : Spot) (a b : Place)
     → IsPlaceOf names phys spot a → IsPlaceOf names phys spot b → a ≡ b
 one_place names phys (InstanceAt i) a b x y =
-    x.2 ∙ (ap (λ (t : SiteInstance). places.Site (text_of names t.site))
-    (same_Some x.0 y.0 (sym x.1 ∙ y.1)) ∙ sym y.2)
+    let same = same_Some x.0 y.0 (sym x.2 ∙ y.2) in
+    let name = same_Some x.1 y.1 (sym x.3 ∙ (ap (λ (t : SiteInstance). slice_get names t.site) same ∙ y.3)) in
+    x.4 ∙ (ap (λ (t : Text). places.Site t) name ∙ sym y.4)
 one_place names phys (PlacementAt i) a b x y =
-    x.2 ∙ (ap (λ (t : CellPlacement). places.Cell (text_of names t.cell_name))
-    (same_Some x.0 y.0 (sym x.1 ∙ y.1)) ∙ sym y.2)
+    let same = same_Some x.0 y.0 (sym x.2 ∙ y.2) in
+    let name = same_Some x.1 y.1 (sym x.3 ∙ (ap (λ (t : CellPlacement). slice_get names t.cell_name) same ∙ y.3)) in
+    x.4 ∙ (ap (λ (t : Text). places.Cell t) name ∙ sym y.4)
 one_place names phys (NetAt n) a b x y =
-    x.2 ∙ (ap (λ (t : PhysNet). places.Segment (text_of names t.name) 0)
-    (same_Some x.0 y.0 (sym x.1 ∙ y.1)) ∙ sym y.2)
+    let same = same_Some x.0 y.0 (sym x.2 ∙ y.2) in
+    let name = same_Some x.1 y.1 (sym x.3 ∙ (ap (λ (t : PhysNet). slice_get names t.name) same ∙ y.3)) in
+    x.4 ∙ (ap (λ (t : Text). places.Segment t 0) name ∙ sym y.4)
 one_place names phys (SegmentAt n k) a b x y =
-    x.2 ∙ (ap (λ (t : PhysNet). places.Segment (text_of names t.name) k)
-    (same_Some x.0 y.0 (sym x.1 ∙ y.1)) ∙ sym y.2)
+    let same = same_Some x.0 y.0 (sym x.2 ∙ y.2) in
+    let name = same_Some x.1 y.1 (sym x.3 ∙ (ap (λ (t : PhysNet). slice_get names t.name) same ∙ y.3)) in
+    x.4 ∙ (ap (λ (t : Text). places.Segment t k) name ∙ sym y.4)
 one_place names phys (PropertyAt i) a b x y =
-    x.2 ∙ (ap (λ (t : Property). places.Key (text_of names t.key))
-    (same_Some x.0 y.0 (sym x.1 ∙ y.1)) ∙ sym y.2)
+    let same = same_Some x.0 y.0 (sym x.2 ∙ y.2) in
+    let name = same_Some x.1 y.1 (sym x.3 ∙ (ap (λ (t : Property). slice_get names t.key) same ∙ y.3)) in
+    x.4 ∙ (ap (λ (t : Text). places.Key t) name ∙ sym y.4)
 one_place names phys (ElementAt i element) a b x y =
-    x.2 ∙ (ap (λ (t : SiteInstance). places.Element (text_of names t.site) element)
-    (same_Some x.0 y.0 (sym x.1 ∙ y.1)) ∙ sym y.2)
+    let same = same_Some x.0 y.0 (sym x.2 ∙ y.2) in
+    let name = same_Some x.1 y.1 (sym x.3 ∙ (ap (λ (t : SiteInstance). slice_get names t.site) same ∙ y.3)) in
+    x.4 ∙ (ap (λ (t : Text). places.Element t element) name ∙ sym y.4)
 
 abbrev told : Rule → Place → Option (Rule × Place)
 told rule place = Some (rule, place)

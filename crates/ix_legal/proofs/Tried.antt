@@ -21,16 +21,16 @@ use Rattle.ix_legal.specs.declared.level.Level.{Level}
 use Rattle.ix_legal.specs.Sites.{pins_at, lut_cell_of}
 use Rattle.ix_legal.specs.Segments.{segment_at, in_end, in_end_of, out_end, entered, entered_by}
 use Rattle.ix_legal.specs.Segments.{IsEnd, IsParent, IsSourceRoot, IsStubRoot}
-use Rattle.ix_legal.specs.Holders.{Holds, constant_of, constant_of_net, net_of_constant}
+use Rattle.ix_legal.specs.Holders.{constant_of, constant_of_net, nets_of_type}
 use Rattle.ix_legal.specs.Spots.{InstanceAt, PlacementAt, NetAt, SegmentAt}
 use Rattle.ix_legal.specs.Spots.{ElementAt, Everywhere}
-use Rattle.ix_legal.specs.Names.{IsNamed, NetIsAlone, nets_of_type}
+use Rattle.ix_legal.specs.Names.{IsNamed, NetIsAlone}
 use Rattle.ix_legal.specs.Placements.{IsPlaced, MapsPins}
 use Rattle.ix_legal.specs.Trees.{IsJoined, IsRooted, IsApart, IsDriver, IsSource, IsFromNode}
 use Rattle.ix_legal.specs.Trees.{HasSource, LeavesParent, EntersAlone}
 use Rattle.ix_legal.specs.Sharing.{IsUnshared, IsInUse, IsRouted, SharesNothing, SiteInUse}
 use Rattle.ix_legal.specs.LutTables.{IsTabled}
-use Rattle.ix_legal.specs.Legal.{Legal}
+use Rattle.ix_legal.specs.Legal.{IsSound, Legal}
 use Rattle.ix_legal.specs.Small.{names, device, driver, leaves, enters, sink, first_cell}
 use Rattle.ix_legal.specs.Small.{with_net}
 
@@ -181,7 +181,7 @@ in_use net (suc (suc (suc (suc k)))) = tt
 pub record IsChain (net : PhysNet) : Type 0 where
   pub signal : net.ty ≡ Signal
   pub segments : (k : ℕ) → segment_at net k ≡ chain k
-  pub has_source : 0 < length net.sources
+  pub has_source : IsSourceRoot net 0
   pub only_root : (k : ℕ) → IsSourceRoot net k → k ≡ 0
   pub stub_root : (k : ℕ) (s : Segment) → segment_at net k ≡ Some s → IsStubRoot net k
       → IsFromNode device s
@@ -319,17 +319,16 @@ module _ (net : PhysNet) (is : IsChain net) where
   apart (SegmentAt zero k) = enters_alone k
   apart spot = tt
 
-  shares_nothing : (level : Level) (k : ℕ) → SharesNothing level device (with_net net) 0 net k
-  shares_nothing level k r holder end counts holds = absurd (none_holds (free end) holds)
-    where
-      free : IsEnd device net k r → constant_of device r ≡ None
-      free (inl at) = begins_free k r (sym (in_is k) ∙ at)
-      free (inr at) = goes_free k r (sym (out_is k) ∙ at)
+  -- the net is the first, and no end of it is a node of a constant
+  free : (k : ℕ) (r : Res) → IsEnd device net k r → constant_of device r ≡ None
+  free k r (inl at) = begins_free k r (sym (in_is k) ∙ at)
+  free k r (inr at) = goes_free k r (sym (out_is k) ∙ at)
 
-      none_holds : constant_of device r ≡ None → Holds device (take 0 (net ∷ [])) r holder → ⊥
-      none_holds none (inl by) = none-some by.net by.net_is
-      none_holds none (inr by) =
-          none-some holder (sym (ap (option_map net_of_constant) none) ∙ by)
+  shares_nothing : (level : Level) (k : ℕ) → SharesNothing level device (with_net net) 0 net k
+  shares_nothing level k = record {
+    of_one_net = λ r earlier other end counts lt is. absurd (omega (arith, lt));
+    own_constant = λ r c end counts of. absurd (none-some c (sym (free k r end) ∙ of));
+  }
 
   pub unshared : (level : Level) → Everywhere (IsUnshared level device (with_net net))
   unshared level (SegmentAt zero k) = shares_nothing level k
@@ -350,9 +349,10 @@ module _ (net : PhysNet) (is : IsChain net) where
       λ place placement lut has. absurd (no_lut placement.ty lut has.lut_is)
   tabled spot = tt
 
-  pub legal : (level : Level) → Everywhere (IsRouted level (with_net net))
-      → Legal level names device (with_net net)
-  legal level no_stubs = record {
+  pub legal : (level : Level) → IsSound names (with_net net)
+      → Everywhere (IsRouted level (with_net net)) → Legal level names device (with_net net)
+  legal level sound no_stubs = record {
+    sound = sound;
     l1 = named;
     l2 = fits;
     l3 = maps;

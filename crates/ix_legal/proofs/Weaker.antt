@@ -19,8 +19,10 @@ pub unshared_placed : (rec : DeviceRec) (phys : Phys) (spot : Spot)
 unshared_placed rec phys (InstanceAt i) h = tt
 unshared_placed rec phys (PlacementAt i) h = tt
 unshared_placed rec phys (NetAt n) h = tt
-unshared_placed rec phys (SegmentAt n k) h = IfSome_then (slice_get phys.nets n) h (λ net shares.
-    λ r holder is counts holds. shares r holder is (counts_routed rec phys r) holds)
+unshared_placed rec phys (SegmentAt n k) h = IfSome_then (slice_get phys.nets n) h (λ net shares. record {
+  of_one_net = λ r earlier other is counts. shares.of_one_net r earlier other is (counts_routed rec phys r);
+  own_constant = λ r c is counts. shares.own_constant r c is (counts_routed rec phys r);
+})
 unshared_placed rec phys (PropertyAt i) h = tt
 unshared_placed rec phys (ElementAt i element) h = tt
 

@@ -1,10 +1,12 @@
 -- The nets that hold a resource.
-use Rattle.std.specs.Prelude.{◌≡◌, ◌⊎◌, List, slice_get, Option, Some, None, option_map}
+use Rattle.std.specs.Prelude.{◌≡◌, ◌⊎◌, List, take, length, slice_get, Bool, true, false}
+use Rattle.std.specs.Prelude.{Option, Some, None, option_map}
+use Rattle.std.specs.List.{filter}
 use Rattle.ix_num.specs.Numbers.{NodeNumber}
 use Rattle.ix_num.specs.declared.resource.Constant.{Constant}
 use Rattle.ix_num.specs.declared.resource.Constant.TheVariants as constants
 use Rattle.ix_num.specs.declared.resource.NetRef.{NetRef}
-use Rattle.ix_num.specs.declared.resource.NetRef.TheVariants as nets
+use Rattle.ix_num.specs.declared.resource.NetRef.TheVariants as holders
 use Rattle.ix_num.specs.declared.resource.Res.{Res}
 use Rattle.ix_num.specs.declared.resource.Res.TheVariants.{Node, Wire}
 use Rattle.ix_rec.specs.declared.device.DeviceRec.{DeviceRec}
@@ -17,16 +19,26 @@ use Rattle.ix_rec.specs.declared.phys.BranchKind.TheVariants.{Pip}
 use Rattle.ix_graph.specs.Constants.{constant_of_node}
 use Rattle.ix_legal.specs.Segments.{NetNumber, SegmentNumber, segment_at, IsEnd}
 
--- A holder is the net of a constant, also where the netlist lists no such net, or a signal net by
--- its number.
-abbrev pub as_holder : NetNumber → NetType → NetRef
-as_holder n Signal = nets.Signal n
-as_holder n Gnd = nets.Gnd
-as_holder n Vcc = nets.Vcc
+-- the nets of this type
+abbrev pub is_of_type : NetType → NetType → Bool
+is_of_type Signal Signal = true
+is_of_type Gnd Gnd = true
+is_of_type Vcc Vcc = true
+is_of_type ty other = false
+
+abbrev pub nets_of_type : NetType → List PhysNet → List PhysNet
+nets_of_type ty nets = filter (λ net. is_of_type ty net.ty) nets
+
+-- A holder is the net of a constant, also where the netlist lists no such net, or a signal net.
+-- Signal nets are numbered by themselves: by how many of them stand before.
+abbrev pub as_holder : List PhysNet → NetNumber → NetType → NetRef
+as_holder nets n Signal = holders.Signal (length (nets_of_type Signal (take n nets)))
+as_holder nets n Gnd = holders.Gnd
+as_holder nets n Vcc = holders.Vcc
 
 abbrev pub net_of_constant : Constant → NetRef
-net_of_constant constants.Gnd = nets.Gnd
-net_of_constant constants.Vcc = nets.Vcc
+net_of_constant constants.Gnd = holders.Gnd
+net_of_constant constants.Vcc = holders.Vcc
 
 -- the constant of a net; none of a signal net
 abbrev pub constant_of_net : NetType → Option Constant
@@ -43,13 +55,13 @@ constant_of rec (Wire site wire) = None
 abbrev pub HasEnd : DeviceRec → PhysNet → Res → Type 0
 HasEnd rec net r = (k : SegmentNumber) × IsEnd rec net k r
 
--- one of these nets, of which the first has number 0, has it so
+-- one of these nets has it so
 pub record HoldsByWiring (rec : DeviceRec) (nets : List PhysNet) (r : Res) (holder : NetRef)
     : Type 0 where
   pub number : NetNumber
   pub net : PhysNet
   pub net_is : slice_get nets number ≡ Some net
-  pub holder_is : as_holder number net.ty ≡ holder
+  pub holder_is : as_holder nets number net.ty ≡ holder
   pub has_end : HasEnd rec net r
 
 -- A net holds what its segments have as an end. A node of a constant is besides held by the net of

@@ -13,11 +13,10 @@ use Rattle.ix_rec.specs.declared.place.Place.{Place}
 use Rattle.ix_rec.specs.declared.place.Rule.{Rule}
 use Rattle.ix_legal.specs.declared.level.Level.{Level}
 use Rattle.ix_legal.specs.declared.level.Level.TheVariants.{Placed, Routed}
-use Rattle.ix_legal.specs.Segments.{NetNumber, SegmentNumber, segments, HasPreorder, IsRoot}
+use Rattle.ix_legal.specs.Segments.{NetNumber, SegmentNumber, segments, IsRoot}
 use Rattle.ix_legal.specs.Segments.{IsParent, segment_at, in_end, out_end, Enters}
 use Rattle.ix_legal.specs.Holders.{HasEnd, Holds}
 use Rattle.ix_legal.specs.Spots.{Everywhere}
-use Rattle.ix_legal.specs.Names.{IsNamed}
 use Rattle.ix_legal.specs.Trees.{IsSource}
 use Rattle.ix_legal.specs.Sharing.{Counts, IsUnshared}
 use Rattle.ix_legal.specs.Legal.{Legal, IsAnswer}
@@ -63,7 +62,7 @@ pub record AreTrees (rec : DeviceRec) (phys : Phys) (net : PhysNet) : Type 0 whe
       → in_end rec net root ≡ Some r → Enters rec net k r → ⊥
 
 abbrev pub TreesFollow : Type 0
-TreesFollow = (names : List Text) (rec : DeviceRec) (phys : Phys) → HasPreorder phys
+TreesFollow = (names : List Text) (rec : DeviceRec) (phys : Phys)
     → Legal Routed names rec phys → (n : NetNumber) (net : PhysNet)
     → slice_get phys.nets n ≡ Some net → AreTrees rec phys net
 
@@ -72,8 +71,7 @@ abbrev pub RoutedIsPlaced : Type 0
 RoutedIsPlaced = (names : List Text) (rec : DeviceRec) (phys : Phys)
     → Legal Routed names rec phys → Legal Placed names rec phys
 
--- No resource has two holders, as far as the level asks it. That its holder is one net of the list
--- takes L1 too: a constant's net is one holder however often it is listed.
+-- No resource has two holders, as far as the level asks it, and no two nets of the list have it.
 pub record HasOneHolder (rec : DeviceRec) (nets : List PhysNet) (r : Res) : Type 0 where
   pub one_holder : (one other : NetRef) → Holds rec nets r one → Holds rec nets r other
       → one ≡ other
@@ -81,8 +79,8 @@ pub record HasOneHolder (rec : DeviceRec) (nets : List PhysNet) (r : Res) : Type
       → slice_get nets m ≡ Some other → HasEnd rec net r → HasEnd rec other r → n ≡ m
 
 abbrev pub HoldersAreOne : Type 0
-HoldersAreOne = (level : Level) (names : List Text) (rec : DeviceRec) (phys : Phys)
-    → Everywhere (IsNamed names rec phys) → Everywhere (IsUnshared level rec phys) → (r : Res)
+HoldersAreOne = (level : Level) (rec : DeviceRec) (phys : Phys)
+    → Everywhere (IsUnshared level rec phys) → (r : Res)
     → Counts level rec phys r → HasOneHolder rec phys.nets r
 
 -- There is one answer, and it is none exactly where the netlist is legal.

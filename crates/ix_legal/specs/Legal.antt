@@ -1,6 +1,9 @@
 -- Legal netlists, and what is told of one that isn't legal.
-use Rattle.std.specs.Prelude.{◌≡◌, ◌<◌, ℕ, List, slice_get, Option, Some, None}
+use Rattle.std.specs.Prelude.{◌≡◌, ◌<◌, ◌≤◌, ℕ, ◌+◌, ◌^◌, List, length, slice_get, Option, Some, None}
+use Rattle.std.specs.List.{AllByRecursion}
 use Rattle.ix_message.specs.Shape.{Text}
+use Rattle.ix_strings.specs.Names.{AllDiffer}
+use Rattle.ix_phys_write.specs.Record.{IsPhysNamed}
 use Rattle.ix_rec.specs.declared.device.DeviceRec.{DeviceRec}
 use Rattle.ix_rec.specs.declared.phys.Phys.{Phys}
 use Rattle.ix_rec.specs.declared.phys.CellPlacement.{CellPlacement}
@@ -12,7 +15,7 @@ use Rattle.ix_rec.specs.declared.place.Place.TheVariants as places
 use Rattle.ix_rec.specs.declared.place.Rule.{Rule}
 use Rattle.ix_rec.specs.declared.place.Rule.TheVariants.{L1, L2, L3, L4, L5, L6, L7, L8, L9, L10}
 use Rattle.ix_legal.specs.declared.level.Level.{Level}
-use Rattle.ix_legal.specs.TableKeys.{text_of}
+use Rattle.ix_legal.specs.Segments.{HasPreorder}
 use Rattle.ix_legal.specs.Spots.{Spot, InstanceAt, PlacementAt, NetAt, SegmentAt, PropertyAt}
 use Rattle.ix_legal.specs.Spots.{ElementAt, IsFirstBreak, Everywhere}
 use Rattle.ix_legal.specs.Names.{IsNamed}
@@ -35,9 +38,33 @@ Asks level names rec phys L9 spot = IsTabled names rec phys spot
 Asks level names rec phys L10 spot = IsRouted level phys spot
 Asks level names rec phys rule spot = Unit {0}
 
--- A netlist is legal at a level where it keeps all rules of the level. Names are numbers of a
--- table.
+-- No list of a netlist has more entries than one that was read from a file can have.
+
+abbrev pub most_entries : ℕ
+most_entries = 2 ^ 28 + 64
+
+abbrev pub IsShort : {A : Type 0} → List A → Type 0
+IsShort xs = length xs ≤ most_entries
+
+pub record IsSmall (phys : Phys) : Type 0 where
+  pub placements : IsShort phys.placements
+  pub nets : IsShort phys.nets
+  pub site_insts : IsShort phys.site_insts
+  pub properties : IsShort phys.properties
+  pub pin_maps : AllByRecursion (λ m. IsShort m.pin_map) phys.placements
+  pub segments : AllByRecursion (λ net. IsShort net.sources × IsShort net.stubs) phys.nets
+
+-- What rules are asked of: a netlist whose trees are in preorder and whose names are all of the
+-- table, which has none twice.
+pub record IsSound (names : List Text) (phys : Phys) : Type 0 where
+  pub small : IsSmall phys
+  pub differ : AllDiffer names
+  pub named : IsPhysNamed names phys
+  pub preorder : HasPreorder phys
+
+-- A netlist is legal at a level where it keeps all rules of the level.
 pub record Legal (level : Level) (names : List Text) (rec : DeviceRec) (phys : Phys) : Type 0 where
+  pub sound : IsSound names phys
   -- what is named is there, and each segment has ends
   pub l1 : Everywhere (IsNamed names rec phys)
   -- cells, BELs and sites are used once, BELs by cells that they admit, sites as their own type
@@ -76,25 +103,28 @@ order rule = 0
 
 -- A place as it is printed: a net as its segment 0.
 abbrev pub IsPlaceOf : List Text → Phys → Spot → Place → Type 0
-IsPlaceOf names phys (InstanceAt i) place = (instance : SiteInstance)
-    × (slice_get phys.site_insts i ≡ Some instance)
-    × (place ≡ places.Site (text_of names instance.site))
-IsPlaceOf names phys (PlacementAt i) place = (placement : CellPlacement)
+IsPlaceOf names phys (InstanceAt i) place = (instance : SiteInstance) × (name : Text)
+    × (slice_get phys.site_insts i ≡ Some instance) × (slice_get names instance.site ≡ Some name)
+    × (place ≡ places.Site name)
+IsPlaceOf names phys (PlacementAt i) place = (placement : CellPlacement) × (name : Text)
     × (slice_get phys.placements i ≡ Some placement)
-    × (place ≡ places.Cell (text_of names placement.cell_name))
-IsPlaceOf names phys (NetAt n) place = (net : PhysNet) × (slice_get phys.nets n ≡ Some net)
-    × (place ≡ places.Segment (text_of names net.name) 0)
-IsPlaceOf names phys (SegmentAt n k) place = (net : PhysNet) × (slice_get phys.nets n ≡ Some net)
-    × (place ≡ places.Segment (text_of names net.name) k)
-IsPlaceOf names phys (PropertyAt i) place = (property : Property)
-    × (slice_get phys.properties i ≡ Some property)
-    × (place ≡ places.Key (text_of names property.key))
-IsPlaceOf names phys (ElementAt i element) place = (instance : SiteInstance)
-    × (slice_get phys.site_insts i ≡ Some instance)
-    × (place ≡ places.Element (text_of names instance.site) element)
+    × (slice_get names placement.cell_name ≡ Some name) × (place ≡ places.Cell name)
+IsPlaceOf names phys (NetAt n) place = (net : PhysNet) × (name : Text)
+    × (slice_get phys.nets n ≡ Some net) × (slice_get names net.name ≡ Some name)
+    × (place ≡ places.Segment name 0)
+IsPlaceOf names phys (SegmentAt n k) place = (net : PhysNet) × (name : Text)
+    × (slice_get phys.nets n ≡ Some net) × (slice_get names net.name ≡ Some name)
+    × (place ≡ places.Segment name k)
+IsPlaceOf names phys (PropertyAt i) place = (property : Property) × (key : Text)
+    × (slice_get phys.properties i ≡ Some property) × (slice_get names property.key ≡ Some key)
+    × (place ≡ places.Key key)
+IsPlaceOf names phys (ElementAt i element) place = (instance : SiteInstance) × (name : Text)
+    × (slice_get phys.site_insts i ≡ Some instance) × (slice_get names instance.site ≡ Some name)
+    × (place ≡ places.Element name element)
 
 pub record IsFirstBroken (level : Level) (names : List Text) (rec : DeviceRec) (phys : Phys)
     (rule : Rule) (place : Place) : Type 0 where
+  pub sound : IsSound names phys
   pub earlier : (other : Rule) → order other < order rule
       → Everywhere (Asks level names rec phys other)
   pub spot : Spot

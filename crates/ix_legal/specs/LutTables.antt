@@ -38,9 +38,12 @@ pub record HasLut (rec : DeviceRec) (phys : Phys) (site : NameNumber) (element :
   pub is_in : IsInElement rec phys site element place placement
   pub lut_is : lut_cell_of rec placement.ty ≡ Some lut
 
--- the BEL of a LUT as its element's shape has it, and where its pin map has its inputs
-pub record IsLutOn (rec : DeviceRec) (element : ElementNumber) (place : ℕ)
-    (placement : CellPlacement) (lut : LutCell) (on : LutPlace) : Type 0 where
+-- A placed LUT: its element, and its BEL's place there; the BEL as the element's shape has it, and
+-- where the pin map has the LUT's inputs.
+pub record IsLutOn (rec : DeviceRec) (placement : CellPlacement) (lut : LutCell)
+    (element : ElementNumber) (place : ℕ) (on : LutPlace) : Type 0 where
+  pub lut_is : lut_cell_of rec placement.ty ≡ Some lut
+  pub is_in : element_at rec placement.site placement.bel ≡ Some (element, place)
   pub bel : LutBel
   pub bel_is : lut_bel_at rec placement.site placement.bel ≡ Some bel
   pub inputs : MapsInputs lut bel placement on.places
@@ -61,19 +64,22 @@ pub record AreHeld (rec : DeviceRec) (nets : List PhysNet) (site : NameNumber)
     (element : ElementNumber) (on : LutPlace) (held : Held) : Type 0 where
   pub number : SiteNumber
   pub site_is : site_named rec site ≡ Some number
+  pub wires : List SiteWireNumber
+  pub wires_are : lines_at rec site element ≡ Some wires
   pub each : (input : InputPlace) (line : LineNumber) (wire : SiteWireNumber)
       → ¬ Contains on.places input → slice_get on.lines input ≡ Some line
-      → slice_get (lines_at rec site element) line ≡ Some wire
+      → slice_get wires line ≡ Some wire
       → IsHeld rec nets (Wire number wire) (held line)
 
--- The function of a LUT at this place of an element, of which the table has these bits: whatever
--- the values of the inputs that it doesn't use, as long as they agree with the constants that hold
--- their wires.
-pub record IsFunction (rec : DeviceRec) (phys : Phys) (element : ElementNumber) (place : ℕ)
-    (placement : CellPlacement) (lut : LutCell) (bits : ElementBits) (function : TableBits)
-    : Type 0 where
+-- The function of a placed LUT, where the table of its element has these bits: whatever the values
+-- of the inputs that it doesn't use, as long as they agree with the constants that hold their wires.
+pub record IsFunction (rec : DeviceRec) (phys : Phys) (placement : CellPlacement)
+    (bits : ElementBits) (function : TableBits) : Type 0 where
+  pub lut : LutCell
+  pub element : ElementNumber
+  pub place : ℕ
   pub on : LutPlace
-  pub is_on : IsLutOn rec element place placement lut on
+  pub is_on : IsLutOn rec placement lut element place on
   pub held : Held
   pub are_held : AreHeld rec phys.nets placement.site element on held
   pub is_table : IsTable (length lut.input_pins) function
@@ -89,7 +95,7 @@ pub record ElementFits (names : List Text) (rec : DeviceRec) (phys : Phys) (site
   pub has_table : HasTable names phys site element bits
   pub functions : (place : ℕ) (placement : CellPlacement) (lut : LutCell)
       → HasLut rec phys site element place placement lut
-      → (function : TableBits) × IsFunction rec phys element place placement lut bits function
+      → (function : TableBits) × IsFunction rec phys placement bits function
 
 abbrev pub TableFits : List Text → DeviceRec → Phys → ElementNumber → SiteInstance → Type 0
 TableFits names rec phys element instance = (place : ℕ) (placement : CellPlacement) (lut : LutCell)

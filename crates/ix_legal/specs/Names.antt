@@ -1,7 +1,7 @@
 -- L1: what is named is there.
-use Rattle.std.specs.Prelude.{◌≡◌, ◌<◌, ℕ, List, map, take, length, Contains, Bool, true, false}
-use Rattle.std.specs.Prelude.{nat_eq, Some, IsSome, IfSome}
-use Rattle.std.specs.List.{AllByRecursion, list_any, filter}
+use Rattle.std.specs.Prelude.{◌≡◌, ◌<◌, ℕ, List, map, take, length, slice_get, Contains, true}
+use Rattle.std.specs.Prelude.{nat_eq, Some, IsSome, IfSome, option_and_then}
+use Rattle.std.specs.List.{AllByRecursion, list_any}
 use Rattle.ix_message.specs.Shape.{Text}
 use Rattle.ix_num.specs.Numbers.{NameNumber}
 use Rattle.ix_rec.specs.declared.device.DeviceRec.{DeviceRec}
@@ -18,7 +18,8 @@ use Rattle.ix_device.specs.Lookups.{site_named, site_type_number}
 use Rattle.ix_graph.specs.Ends.{ends}
 use Rattle.ix_legal.specs.Sites.{ElementNumber, bel_at, bel_pin_at, elements_at}
 use Rattle.ix_legal.specs.Segments.{segment_at}
-use Rattle.ix_legal.specs.TableKeys.{text_of, IsTableKey, table_key, table_bits}
+use Rattle.ix_legal.specs.Holders.{nets_of_type}
+use Rattle.ix_legal.specs.TableKeys.{IsTableKey, table_key, table_bits}
 use Rattle.ix_legal.specs.Spots.{Spot, AskedOf}
 use Rattle.ix_legal.specs.Spots.{InstanceAt, PlacementAt, NetAt, SegmentAt, PropertyAt}
 
@@ -38,15 +39,6 @@ pub record PlacementIsNamed (rec : DeviceRec) (placement : CellPlacement) : Type
 
 -- Of a net: a signal net has a name that no signal net before it has, and no net before one of a
 -- constant is of that constant.
-abbrev pub is_of_type : NetType → NetType → Bool
-is_of_type Signal Signal = true
-is_of_type Gnd Gnd = true
-is_of_type Vcc Vcc = true
-is_of_type ty other = false
-
-abbrev pub nets_of_type : NetType → List PhysNet → List PhysNet
-nets_of_type ty nets = filter (λ net. is_of_type ty net.ty) nets
-
 -- of these nets before it, which are of its type
 abbrev pub NetIsAlone : NetType → (name : NameNumber) → List PhysNet → Type 0
 NetIsAlone Signal name before = is_new (map (λ net. net.name) before) name ≡ true
@@ -65,17 +57,19 @@ pub record TableIsNamed (names : List Text) (rec : DeviceRec) (phys : Phys) (i :
     (property : Property) : Type 0 where
   pub instance : SiteInstance
   pub stands : Contains phys.site_insts instance
+  pub site_text : Text
+  pub site_is : slice_get names instance.site ≡ Some site_text
   pub element : ElementNumber
-  pub key_is : text_of names property.key ≡ table_key (text_of names instance.site) element
+  pub key_is : slice_get names property.key ≡ Some (table_key site_text element)
   pub elements : List LutElement
   pub of_site : elements_at rec instance.site ≡ Some elements
   pub in_site : element < length elements
   pub once : is_new (map (λ p. p.key) (take i phys.properties)) property.key ≡ true
-  pub digits : IsSome (table_bits (text_of names property.value))
+  pub digits : IsSome (option_and_then table_bits (slice_get names property.value))
 
 abbrev pub KeyIsNamed : List Text → DeviceRec → Phys → ℕ → Property → Type 0
-KeyIsNamed names rec phys i property =
-    IsTableKey (text_of names property.key) → TableIsNamed names rec phys i property
+KeyIsNamed names rec phys i property = (key : Text) → slice_get names property.key ≡ Some key
+    → IsTableKey key → TableIsNamed names rec phys i property
 
 abbrev pub IsNamed : List Text → DeviceRec → Phys → Spot → Type 0
 IsNamed names rec phys (InstanceAt i) = AskedOf phys.site_insts i (InstanceIsNamed rec)

@@ -1,6 +1,5 @@
 -- What names lead to in a site. BELs, pins and LUT elements are those of the site's own type.
-use Rattle.std.specs.Prelude.{ℕ, List, [], slice_get, Option, option_map, option_and_then}
-use Rattle.std.specs.Prelude.{unwrap_or}
+use Rattle.std.specs.Prelude.{ℕ, List, slice_get, Option, option_map, option_and_then}
 use Rattle.std.specs.List.{find}
 use Rattle.ix_num.specs.Numbers.{NameNumber, SiteTypeNumber, BelNumber, BelPinNumber}
 use Rattle.ix_num.specs.Numbers.{SiteWireNumber}
@@ -83,6 +82,7 @@ abbrev pub shape_at : DeviceRec → (site : NameNumber) → ElementNumber → Op
 shape_at rec site element = in_site rec site (shape_in rec element)
 
 -- the site wires that are an element's lines, by the lines' numbers
-abbrev pub lines_at : DeviceRec → (site : NameNumber) → ElementNumber → List SiteWireNumber
-lines_at rec site element = unwrap_or (in_site rec site (λ t.
-    option_map (lines_of t) (slice_get (elements_of rec t) element))) []
+abbrev pub lines_at : DeviceRec → (site : NameNumber) → ElementNumber
+    → Option (List SiteWireNumber)
+lines_at rec site element = in_site rec site (λ t.
+    option_map (lines_of t) (slice_get (elements_of rec t) element))

@@ -1,19 +1,14 @@
 -- The walk through a physical netlist: site instances, placements, nets by segment, properties,
 -- then elements by site instance and number. It is an order of places.
-use Rattle.std.specs.Prelude.{◌≡◌, ◌⊎◌, ◌<◌, ℕ, List, [], ◌∷◌, slice_get, IfSome}
-use Rattle.ix_legal.specs.Sites.{ElementNumber}
+use Rattle.std.specs.Prelude.{◌≡◌, ◌⊎◌, ◌<◌, ℕ, List, [], ◌∷◌, slice_get, Option, Some, None, IfSome}
+use Rattle.ix_rec.specs.declared.phys.Phys.{Phys}
+use Rattle.ix_rec.specs.declared.phys.PhysNet.{PhysNet}
 use Rattle.ix_legal.specs.Segments.{NetNumber, SegmentNumber}
-
--- A place in the walk: things go by their places in the netlist's lists.
-pub data Spot : Type 0 where
-  InstanceAt : ℕ → Spot
-  PlacementAt : ℕ → Spot
-  -- a net as such, before its segments
-  NetAt : NetNumber → Spot
-  SegmentAt : NetNumber → SegmentNumber → Spot
-  PropertyAt : ℕ → Spot
-  -- an element of the site of an instance
-  ElementAt : (instance : ℕ) → ElementNumber → Spot
+-- A place in the walk: things go by their places in the netlist's lists, elements by the instance
+-- of their site.
+pub use Rattle.ix_legal.specs.declared.spot.Spot.{Spot}
+pub use Rattle.ix_legal.specs.declared.spot.Spot.TheVariants.{InstanceAt, PlacementAt, NetAt}
+pub use Rattle.ix_legal.specs.declared.spot.Spot.TheVariants.{SegmentAt, PropertyAt, ElementAt}
 
 -- by first difference; what goes on comes later
 abbrev pub IsLess : List ℕ → List ℕ → Type 0
@@ -46,3 +41,19 @@ pub record IsFirstBreak (Asked : Spot → Type 0) (spot : Spot) : Type 0 where
 -- what is asked of the thing at a place of a list; past the end nothing
 abbrev pub AskedOf : {A : Type 0} → List A → ℕ → (A → Type 0) → Type 0
 AskedOf xs i P = IfSome (slice_get xs i) P
+
+-- what is asked of nets, and of their segments, and of nothing else
+abbrev pub OfNets : Phys → (NetNumber → PhysNet → Type 0)
+    → (NetNumber → PhysNet → SegmentNumber → Type 0) → Spot → Type 0
+OfNets phys Asked AskedAt (NetAt n) = AskedOf phys.nets n (Asked n)
+OfNets phys Asked AskedAt (SegmentAt n k) = AskedOf phys.nets n (λ net. AskedAt n net k)
+OfNets phys Asked AskedAt spot = Unit {0}
+
+-- what is asked of segments alone
+abbrev pub OfSegments : Phys → (NetNumber → PhysNet → SegmentNumber → Type 0) → Spot → Type 0
+OfSegments phys AskedAt spot = OfNets phys (λ n net. Unit {0}) AskedAt spot
+
+-- what is told of a rule: none where it is kept everywhere, else the first place at which it isn't
+abbrev pub Tells : (Spot → Type 0) → Option Spot → Type 0
+Tells Asked None = Everywhere Asked
+Tells Asked (Some spot) = IsFirstBreak Asked spot

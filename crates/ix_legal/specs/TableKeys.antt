@@ -1,5 +1,5 @@
 -- The tables of LUT elements, as properties of a netlist.
-use Rattle.std.specs.Prelude.{◌≡◌, ℕ, ◌+◌, ◌-◌, ◌*◌, List, [], ◌∷◌, ◌++◌, length, slice_index_or}
+use Rattle.std.specs.Prelude.{◌≡◌, ℕ, ◌+◌, ◌-◌, ◌*◌, List, [], ◌∷◌, ◌++◌, length, slice_get}
 use Rattle.std.specs.Prelude.{Contains, Option, Some, None, option_and_then, if◌then◌else◌, nat_eq}
 use Rattle.std.specs.Prelude.{codes}
 use Rattle.std.specs.Fmt.{decimal}
@@ -10,9 +10,6 @@ use Rattle.ix_rec.specs.declared.phys.Property.{Property}
 use Rattle.ix_lut.specs.Init.{is_within}
 use Rattle.ix_lut.specs.Places.{ElementBits}
 use Rattle.ix_legal.specs.Sites.{ElementNumber}
-
-abbrev pub text_of : List Text → NameNumber → Text
-text_of names name = slice_index_or names name []
 
 -- A key that begins so is a table's; properties with other keys are passed over.
 abbrev pub IsTableKey : Text → Type 0
@@ -44,5 +41,7 @@ pub record HasTable (names : List Text) (phys : Phys) (site : NameNumber) (eleme
     (bits : ElementBits) : Type 0 where
   pub property : Property
   pub stands : Contains phys.properties property
-  pub key_is : text_of names property.key ≡ table_key (text_of names site) element
-  pub value_is : table_bits (text_of names property.value) ≡ Some bits
+  pub site_text : Text
+  pub site_is : slice_get names site ≡ Some site_text
+  pub key_is : slice_get names property.key ≡ Some (table_key site_text element)
+  pub value_is : option_and_then table_bits (slice_get names property.value) ≡ Some bits

@@ -1,5 +1,5 @@
 -- L4: segments are joined. L5: trees begin at proper roots. L6: they don't meet.
-use Rattle.std.specs.Prelude.{◌≡◌, ◌≢◌, ◌⊎◌, ◌<◌, ◌≤◌, length, Contains, false, Some, None}
+use Rattle.std.specs.Prelude.{◌≡◌, ◌≢◌, ◌⊎◌, ◌<◌, ◌≤◌, Contains, false, Some, None}
 use Rattle.ix_num.specs.Numbers.{NameNumber, NodeNumber}
 use Rattle.ix_num.specs.declared.resource.Constant.{Constant}
 use Rattle.ix_num.specs.declared.resource.Constant.TheVariants as constants
@@ -21,7 +21,7 @@ use Rattle.ix_legal.specs.Segments.{SegmentNumber, segment_at, IsSourceRoot, IsS
 use Rattle.ix_legal.specs.Segments.{in_end_of, in_end, out_end, Enters}
 use Rattle.ix_legal.specs.Holders.{constant_of_net, constant_of}
 use Rattle.ix_legal.specs.Placements.{has_cell}
-use Rattle.ix_legal.specs.Spots.{Spot, AskedOf, NetAt, SegmentAt}
+use Rattle.ix_legal.specs.Spots.{Spot, OfNets, OfSegments}
 
 -- L4, of a segment: its in-end is its parent's out-end.
 abbrev pub LeavesParent : DeviceRec → PhysNet → SegmentNumber → Type 0
@@ -29,8 +29,7 @@ LeavesParent rec net k = (parent : SegmentNumber) → IsParent net parent k
     → in_end rec net k ≡ out_end rec net parent
 
 abbrev pub IsJoined : DeviceRec → Phys → Spot → Type 0
-IsJoined rec phys (SegmentAt n k) = AskedOf phys.nets n (λ net. LeavesParent rec net k)
-IsJoined rec phys spot = Unit {0}
+IsJoined rec phys spot = OfSegments phys (λ n net k. LeavesParent rec net k) spot
 
 -- L5, of a source root of a signal net: it is the net's first, and a BEL pin of direction output
 -- that a placed cell's pin map names.
@@ -81,15 +80,14 @@ pub record RootFits (rec : DeviceRec) (phys : Phys) (net : PhysNet) (k : Segment
         → IsSource net.ty rec phys k s
     pub stub : (s : Segment) → segment_at net k ≡ Some s → IsStubRoot net k → IsFromNode rec s
 
--- of a net: a signal net has a source root
+-- Of a net: a signal net has a source root. Of trees in preorder the first segment is a root.
 abbrev pub HasSource : NetType → PhysNet → Type 0
-HasSource Signal net = 0 < length net.sources
+HasSource Signal net = IsSourceRoot net 0
 HasSource constant net = Unit {0}
 
 abbrev pub IsRooted : DeviceRec → Phys → Spot → Type 0
-IsRooted rec phys (NetAt n) = AskedOf phys.nets n (λ net. HasSource net.ty net)
-IsRooted rec phys (SegmentAt n k) = AskedOf phys.nets n (λ net. RootFits rec phys net k)
-IsRooted rec phys spot = Unit {0}
+IsRooted rec phys spot =
+    OfNets phys (λ n net. HasSource net.ty net) (λ n net k. RootFits rec phys net k) spot
 
 -- L6, of a segment: what it enters no segment before it enters; it isn't the in-end of a source
 -- root up to it; and in the net of a constant it is no node of that constant. The in-end of a
@@ -105,5 +103,4 @@ pub record EntersAlone (rec : DeviceRec) (net : PhysNet) (k : SegmentNumber) : T
       → constant_of_net net.ty ≡ Some c → constant_of rec r ≢ Some c
 
 abbrev pub IsApart : DeviceRec → Phys → Spot → Type 0
-IsApart rec phys (SegmentAt n k) = AskedOf phys.nets n (λ net. EntersAlone rec net k)
-IsApart rec phys spot = Unit {0}
+IsApart rec phys spot = OfSegments phys (λ n net k. EntersAlone rec net k) spot

@@ -14,7 +14,7 @@ pub fn routed_is_placed()
     ensures law { RoutedIsPlaced }
 {}
 
-/// No resource has two holders in a netlist that keeps L1 and L7, as far as its level asks it.
+/// No resource has two holders in a netlist that keeps L7, as far as its level asks it.
 pub fn holders_are_one()
     ensures law { HoldersAreOne }
 {}

@@ -6,9 +6,11 @@
 mod cases;
 mod laws;
 mod level;
+mod spot;
 
 pub use cases::small_netlists;
 pub use laws::{
     answers_are_one, broken_is_not_legal, holders_are_one, routed_is_placed, trees_follow,
 };
 pub use level::Level;
+pub use spot::Spot;

@@ -4,6 +4,7 @@ use Rattle.ix_legal.proofs.laws.routed_is_placed.Goals as goal
 pub returns : goal.returns
 returns c = record {
   law = λ names rec phys legal. record {
+    sound = legal.sound;
     l1 = legal.l1;
     l2 = legal.l2;
     l3 = legal.l3;

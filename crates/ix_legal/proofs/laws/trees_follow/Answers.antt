@@ -11,9 +11,9 @@ use Rattle.ix_legal.proofs.laws.trees_follow.Goals as goal
 
 pub returns : goal.returns
 returns c = record {
-  law = λ names rec phys preorder legal n net is. are_trees rec phys net record {
+  law = λ names rec phys legal n net is. are_trees rec phys net record {
     preorder = (all_at (λ (t : PhysNet). IsPreorder t.sources × IsPreorder t.stubs) phys.nets n net
-        preorder is).0;
+        legal.sound.preorder is).0;
     has_ends = λ k. asked_of phys.nets n (λ t. SegmentHasEnds rec t k) net is
         (legal.l1 (SegmentAt n k));
     joined = λ k. asked_of phys.nets n (λ t. LeavesParent rec t k) net is

@@ -1,6 +1,6 @@
 -- The ends of a netlist's segments, by number.
 use Rattle.std.specs.Prelude.{◌≡◌, ◌<◌, ◌≤◌, ℕ, ◌+◌, List, length, slice_get, Option, Some}
-use Rattle.std.specs.Prelude.{option_map, option_and_then}
+use Rattle.std.specs.Prelude.{option_map, option_and_then, Result, Err}
 use Rattle.ix_num.specs.Numbers.{SiteNumber, SiteWireNumber}
 use Rattle.ix_num.specs.declared.resource.Res.{Res}
 use Rattle.ix_num.specs.declared.resource.Res.TheVariants.{Node, Wire}
@@ -8,13 +8,15 @@ use Rattle.ix_rec.specs.declared.device.DeviceRec.{DeviceRec}
 use Rattle.ix_rec.specs.declared.phys.Phys.{Phys}
 use Rattle.ix_rec.specs.declared.phys.PhysNet.{PhysNet}
 use Rattle.ix_rec.specs.declared.phys.Segment.{Segment}
-use Rattle.ix_device.specs.Lookups.{type_of_site}
+use Rattle.ix_device.specs.Lookups.{sites_of, type_of_site}
 use Rattle.ix_graph.specs.Ends.{ends}
 use Rattle.ix_graph.specs.Nodes.{nodes}
 use Rattle.ix_legal.specs.Segments.{NetNumber, SegmentNumber, segments, segment_at}
-use Rattle.ix_legal.specs.Spots.{Spot, OfSegments, IsFirstBreak}
+use Rattle.ix_legal.specs.Spots.{Spot, SegmentAt, OfSegments, IsFirstBreak}
 use Rattle.ix_legal.specs.Names.{SegmentHasEnds}
 use Rattle.ix_ends.specs.declared.pair.Pair.{Pair}
+use Rattle.ix_ends.specs.declared.ends.EndsFault.{EndsFault}
+use Rattle.ix_ends.specs.declared.ends.EndsFault.TheVariants.{NoEnds}
 
 -- a resource, by number
 abbrev pub ResNumber : Type 0
@@ -78,6 +80,7 @@ pub record AreEnds (rec : DeviceRec) (phys : Phys) (seen : EndsSeen) : Type 0 wh
   pub nodes_first : (n number : ℕ) → IsNumbered rec seen (Node n) number → number < seen.nodes
   pub wires_after : (site wire number : ℕ) → IsNumbered rec seen (Wire site wire) number
       → seen.nodes ≤ number
+  pub sites_all : length seen.bases ≡ length (sites_of rec)
   pub sites_are : (site : SiteNumber) (base : ResNumber) (wire : SiteWireNumber)
       → slice_get seen.bases site ≡ Some (Some base) → IsThere rec (Wire site wire)
       → base + wire < seen.count
@@ -86,3 +89,8 @@ pub record AreEnds (rec : DeviceRec) (phys : Phys) (seen : EndsSeen) : Type 0 wh
 abbrev pub IsFirstWithoutEnds : DeviceRec → Phys → Spot → Type 0
 IsFirstWithoutEnds rec phys spot =
     IsFirstBreak (OfSegments phys (λ n net k. SegmentHasEnds rec net k)) spot
+
+-- why there are no ends: the first segment without them, or want of memory
+abbrev pub IsRefused : {A : Type 0} → DeviceRec → Phys → Result A EndsFault → Type 0
+IsRefused rec phys (Err (NoEnds n k)) = IsFirstWithoutEnds rec phys (SegmentAt n k)
+IsRefused rec phys result = Unit {0}

@@ -7,5 +7,4 @@ mod laws;
 mod pair;
 
 pub use ends::{Ends, EndsFault};
-pub use laws::{constants_are_the_record_s, ends_are_there};
 pub use pair::Pair;

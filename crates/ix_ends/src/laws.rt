@@ -1,0 +1,1 @@
+//! Laws on the ends of segments, over the definitions alone.

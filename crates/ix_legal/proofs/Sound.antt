@@ -64,7 +64,6 @@ sound net named preorder short = record {
     nets = omega arith;
     site_insts = omega arith;
     properties = omega arith;
-    pin_maps = (omega arith, omega arith, tt);
     segments = (short, tt);
   };
   differ = names_differ;

@@ -38,7 +38,7 @@ Asks level names rec phys L9 spot = IsTabled names rec phys spot
 Asks level names rec phys L10 spot = IsRouted level phys spot
 Asks level names rec phys rule spot = Unit {0}
 
--- No list of a netlist has more entries than one that was read from a file can have.
+-- Lists of a netlist have no more entries than those that were read from a file can have.
 
 abbrev pub most_entries : ℕ
 most_entries = 2 ^ 28 + 64
@@ -51,7 +51,6 @@ pub record IsSmall (phys : Phys) : Type 0 where
   pub nets : IsShort phys.nets
   pub site_insts : IsShort phys.site_insts
   pub properties : IsShort phys.properties
-  pub pin_maps : AllByRecursion (λ m. IsShort m.pin_map) phys.placements
   pub segments : AllByRecursion (λ net. IsShort net.sources × IsShort net.stubs) phys.nets
 
 -- What rules are asked of: a netlist whose trees are in preorder and whose names are all of the

@@ -1,14 +1,17 @@
 -- A netlist of first fit keeps the rules.
-use Rattle.std.proofs.Common.{◌≡◌, ◌<◌, ◌∙◌, refl, ap, sym, subst, ℕ, zero, suc, arith}
+use Rattle.std.proofs.Common.{◌≡◌, ◌<◌, ◌≤◌, ◌+◌, ◌++◌, ◌∙◌, refl, ap, sym, subst, ℕ, zero, suc, arith}
 use Rattle.std.proofs.Common.{Bool, true, false, not, ◌||◌, nat_eq}
 use Rattle.std.proofs.Common.{List, [], ◌∷◌, map, take, length, slice_get, Option, Some, None}
-use Rattle.std.proofs.Common.{option_map, option_and_then, is_some, IfSome}
-use Rattle.std.specs.List.{list_any}
+use Rattle.std.proofs.Common.{option_map, option_and_then, is_some, IfSome, cond}
+use Rattle.std.specs.List.{AllByRecursion, list_any}
 use Rattle.std.proofs.lemmas.Bool.{eqb-true, eq-eqb}
 use Rattle.std.proofs.lemmas.Map.Keys.{any_passes_from_place}
 use Rattle.std.proofs.lemmas.Option.{none-some, same_Some, slice_get-map, slice_get_within}
 use Rattle.std.proofs.lemmas.Option.{slice_get_read}
 use Rattle.ix_message.specs.Shape.{Text}
+use Rattle.ix_strings.specs.Names.{AllDiffer}
+use Rattle.ix_phys_write.specs.Record.{IsPhysNamed}
+use Rattle.ix_rec.specs.Forest.{IsPreorder}
 use Rattle.ix_rec.specs.declared.device.DeviceRec.{DeviceRec}
 use Rattle.ix_rec.specs.declared.device.SiteType.{SiteType}
 use Rattle.ix_rec.specs.declared.phys.CellPlacement.{CellPlacement}
@@ -21,24 +24,24 @@ use Rattle.ix_device_rules.specs.Rules.{is_new}
 use Rattle.ix_device.specs.Lookups.{site_named, name_of_site, type_of_site, site_type_number}
 use Rattle.ix_first_fit.specs.declared.cell.Spot.{Spot}
 use Rattle.ix_first_fit.specs.Spots as fit
-use Rattle.ix_first_fit.specs.Netlist.{used_sites, instance_told, instance_wanted}
+use Rattle.ix_first_fit.specs.Netlist.{used_sites, used_after, with_site, instance_told}
+use Rattle.ix_first_fit.specs.Netlist.{instance_wanted}
 use Rattle.ix_first_fit.specs.Laws.{IsOnPlace, HasOwnPlaces}
 use Rattle.ix_first_fit.specs.Answers.{IsFitted}
 use Rattle.ix_legal.specs.declared.level.Level.TheVariants.{Routed}
 use Rattle.ix_legal.specs.Sites.{bel_at, bel_pin_at, lut_cell_of}
 use Rattle.ix_legal.specs.Spots.{AskedOf, Everywhere, InstanceAt, PlacementAt, NetAt, SegmentAt}
-use Rattle.ix_legal.specs.Spots.{PropertyAt, ElementAt}
+use Rattle.ix_legal.specs.Spots.{PropertyAt, ElementAt, OfNets, OfSegments}
 use Rattle.ix_legal.specs.Names.{IsNamed, InstanceIsNamed, PlacementIsNamed, NetIsNamed}
 use Rattle.ix_legal.specs.Names.{SegmentHasEnds, KeyIsNamed}
 use Rattle.ix_legal.specs.Placements.{IsPlaced, InstanceFits, PlacementFits, MapsPins, PinMapFits}
 use Rattle.ix_legal.specs.Placements.{PinsFit, IsOfDevice, is_on, has_instance}
-use Rattle.ix_legal.specs.Trees.{IsJoined, LeavesParent, IsRooted, HasSource, RootFits, IsApart}
-use Rattle.ix_legal.specs.Trees.{EntersAlone}
-use Rattle.ix_legal.specs.Segments.{segment_at}
-use Rattle.ix_legal.specs.Sharing.{IsUnshared, SharesNothing, IsInUse, SiteInUse, IsRouted}
+use Rattle.ix_legal.specs.Trees.{LeavesParent, HasSource, RootFits, EntersAlone}
+use Rattle.ix_legal.specs.Segments.{NetNumber, SegmentNumber, segment_at}
+use Rattle.ix_legal.specs.Sharing.{SharesNothing, SiteInUse}
 use Rattle.ix_legal.specs.Sharing.{InSourceTree}
 use Rattle.ix_legal.specs.LutTables.{IsTabled, TableFits}
-use Rattle.ix_legal.specs.Legal.{Legal}
+use Rattle.ix_legal.specs.Legal.{Legal, IsSmall, IsShort, most_entries}
 use Rattle.ix_fit_legal.specs.Laws.{ArePlain}
 use Rattle.ix_fit_legal.proofs.Fresh.{and_left, and_right, place_of_any, position_at}
 use Rattle.ix_fit_legal.proofs.ValidNames.{site_found, type_found}
@@ -91,6 +94,24 @@ new_there : {A : Type 0} (f : A → ℕ) (xs : List A) (i n : ℕ)
 new_there f xs i n fails = ap not (any_map f n (take i xs)
     ∙ none_before (λ x. nat_eq n (f x)) xs i
     (λ j x lt at h. fails j x lt at (sym (eqb-true n (f x) h))))
+
+-- no more sites are used than there are places
+few_used : (sites : List ℕ) (places : List Spot)
+    → length (used_after sites places) ≤ length sites + length places
+unfolding used_after
+few_used sites [] = omega arith
+few_used sites (p ∷ ps) = by (list_any (λ t. nat_eq p.site t) sites) refl
+  where
+    by : (b : Bool) → list_any (λ t. nat_eq p.site t) sites ≡ b
+        → length (used_after (with_site sites p.site) ps) ≤ length sites + suc (length ps)
+    by true h = let rest : length (used_after sites ps) ≤ length sites + length ps = few_used sites ps in
+        subst (λ (xs : List ℕ). length (used_after xs ps) ≤ length sites + suc (length ps))
+        (sym (ap (λ b. cond b sites (sites ++ p.site ∷ [])) h)) (omega (arith, rest))
+    by false h = let rest : length (used_after (sites ++ p.site ∷ []) ps)
+        ≤ length (sites ++ p.site ∷ []) + length ps = few_used (sites ++ p.site ∷ []) ps in
+        let more : length (sites ++ p.site ∷ []) ≡ length sites + 1 = length-append sites (p.site ∷ []) in
+        subst (λ (xs : List ℕ). length (used_after xs ps) ≤ length sites + suc (length ps))
+        (sym (ap (λ b. cond b sites (sites ++ p.site ∷ [])) h)) (omega (arith, rest, more))
 
 -- The same site type of a site, by the two ways in which it is told.
 fit_type : (rec : DeviceRec) (site : ℕ) (t : SiteType) → fit.type_at rec site ≡ Some t
@@ -329,53 +350,21 @@ module _ (names : List Text) (rec : DeviceRec) (cells : List FlatCell) (phys : P
   l3 (PropertyAt i) = tt
   l3 (ElementAt i element) = tt
 
-  -- L4 to L8 and L10 ask of nets alone.
+  -- L4 to L8 and L10 ask of nets alone, and there are none.
+  no_nets : (Asked : NetNumber → PhysNet → Type 0)
+      (AskedAt : NetNumber → PhysNet → SegmentNumber → Type 0)
+      → Everywhere (OfNets phys Asked AskedAt)
+  no_nets Asked AskedAt (InstanceAt i) = tt
+  no_nets Asked AskedAt (PlacementAt i) = tt
+  no_nets Asked AskedAt (NetAt n) = asks_none phys.nets n (Asked n) is.netlist.nets
+  no_nets Asked AskedAt (SegmentAt n k) =
+      asks_none phys.nets n (λ net. AskedAt n net k) is.netlist.nets
+  no_nets Asked AskedAt (PropertyAt i) = tt
+  no_nets Asked AskedAt (ElementAt i element) = tt
 
-  l4 : Everywhere (IsJoined rec phys)
-  l4 (InstanceAt i) = tt
-  l4 (PlacementAt i) = tt
-  l4 (NetAt n) = tt
-  l4 (SegmentAt n k) =
-      asks_none phys.nets n (λ (net : PhysNet). LeavesParent rec net k) is.netlist.nets
-  l4 (PropertyAt i) = tt
-  l4 (ElementAt i element) = tt
-
-  l5 : Everywhere (IsRooted rec phys)
-  l5 (InstanceAt i) = tt
-  l5 (PlacementAt i) = tt
-  l5 (NetAt n) = asks_none phys.nets n (λ (net : PhysNet). HasSource net.ty net) is.netlist.nets
-  l5 (SegmentAt n k) =
-      asks_none phys.nets n (λ (net : PhysNet). RootFits rec phys net k) is.netlist.nets
-  l5 (PropertyAt i) = tt
-  l5 (ElementAt i element) = tt
-
-  l6 : Everywhere (IsApart rec phys)
-  l6 (InstanceAt i) = tt
-  l6 (PlacementAt i) = tt
-  l6 (NetAt n) = tt
-  l6 (SegmentAt n k) =
-      asks_none phys.nets n (λ (net : PhysNet). EntersAlone rec net k) is.netlist.nets
-  l6 (PropertyAt i) = tt
-  l6 (ElementAt i element) = tt
-
-  l7 : Everywhere (IsUnshared Routed rec phys)
-  l7 (InstanceAt i) = tt
-  l7 (PlacementAt i) = tt
-  l7 (NetAt n) = tt
-  l7 (SegmentAt n k) = asks_none phys.nets n
-      (λ (net : PhysNet). SharesNothing Routed rec phys n net k) is.netlist.nets
-  l7 (PropertyAt i) = tt
-  l7 (ElementAt i element) = tt
-
-  l8 : Everywhere (IsInUse phys)
-  l8 (InstanceAt i) = tt
-  l8 (PlacementAt i) = tt
-  l8 (NetAt n) = tt
-  l8 (SegmentAt n k) = asks_none phys.nets n
-      (λ (net : PhysNet). IfSome (segment_at net k) (λ s. SiteInUse s.kind phys s))
-      is.netlist.nets
-  l8 (PropertyAt i) = tt
-  l8 (ElementAt i element) = tt
+  no_segments : (AskedAt : NetNumber → PhysNet → SegmentNumber → Type 0)
+      → Everywhere (OfSegments phys AskedAt)
+  no_segments AskedAt = no_nets (λ n net. Unit {0}) AskedAt
 
   -- L9: no LUT is placed in an element.
   l9 : Everywhere (IsTabled names rec phys)
@@ -390,25 +379,46 @@ module _ (names : List Text) (rec : DeviceRec) (cells : List FlatCell) (phys : P
       (length phys.placements) stands.0 m refl stands.1 (sym stands.2) in
       absurd (none-some lut (sym (not_lut stands.0 m m_at) ∙ has.lut_is)))
 
-  l10 : Everywhere (IsRouted Routed phys)
-  l10 (InstanceAt i) = tt
-  l10 (PlacementAt i) = tt
-  l10 (NetAt n) = tt
-  l10 (SegmentAt n k) =
-      asks_none phys.nets n (λ (net : PhysNet). InSourceTree net k) is.netlist.nets
-  l10 (PropertyAt i) = tt
-  l10 (ElementAt i element) = tt
+  -- how long its lists are
+  small : length cells ≤ most_entries → IsSmall phys
+  small few =
+      let placements : length phys.placements ≡ length cells = own.placements_count in
+      let places : length own.places ≡ length cells = own.places_count in
+      let told : length (map instance_told phys.site_insts) ≡ length (map (instance_wanted rec) (used_sites own.places)) = ap length own.instances in
+      let instances : length phys.site_insts ≡ length (used_sites own.places) =
+      sym (length-map instance_told phys.site_insts)
+      ∙ (told ∙ length-map (instance_wanted rec) (used_sites own.places)) in
+      let used : length (used_sites own.places) ≤ length own.places = few_used [] own.places in
+      let nets : length phys.nets ≡ 0 = ap length is.netlist.nets in
+      let properties : length phys.properties ≡ 0 = ap length is.netlist.properties in
+      record {
+        placements = omega (arith, few, placements);
+        nets = omega (arith, nets);
+        site_insts = omega (arith, few, instances, used, places);
+        properties = omega (arith, properties);
+        segments = subst (AllByRecursion (λ (net : PhysNet). IsShort net.sources × IsShort net.stubs))
+            (sym is.netlist.nets) tt;
+      }
 
-  pub legal : Legal Routed names rec phys
-  legal = record {
+  pub legal : length cells ≤ most_entries → AllDiffer names → IsPhysNamed names phys
+      → Legal Routed names rec phys
+  legal few differ named = record {
+    sound = record {
+      small = small few;
+      differ = differ;
+      named = named;
+      preorder = subst
+          (AllByRecursion (λ (net : PhysNet). IsPreorder net.sources × IsPreorder net.stubs))
+          (sym is.netlist.nets) tt;
+    };
     l1 = l1;
     l2 = l2;
     l3 = l3;
-    l4 = l4;
-    l5 = l5;
-    l6 = l6;
-    l7 = l7;
-    l8 = l8;
+    l4 = no_segments (λ n net k. LeavesParent rec net k);
+    l5 = no_nets (λ n net. HasSource net.ty net) (λ n net k. RootFits rec phys net k);
+    l6 = no_segments (λ n net k. EntersAlone rec net k);
+    l7 = no_segments (SharesNothing Routed rec phys);
+    l8 = no_segments (λ n net k. IfSome (segment_at net k) (λ s. SiteInUse s.kind phys s));
     l9 = l9;
-    l10 = l10;
+    l10 = no_segments (λ n net k. InSourceTree net k);
   }

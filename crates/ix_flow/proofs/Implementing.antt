@@ -23,7 +23,6 @@ use Rattle.ix_flat.specs.Whole.{AllDiffer, IsWhole}
 use Rattle.ix_belmap.specs.declared.ports.Fixing.{Fixing}
 use Rattle.ix_belmap.specs.Pins.{fixings, IsFixed}
 use Rattle.ix_first_fit.specs.declared.cell.Spot.{Spot}
-use Rattle.ix_first_fit.specs.Spots.{admits}
 use Rattle.ix_first_fit.specs.Netlist.{IsPinMap}
 use Rattle.ix_first_fit.specs.Laws.{IsOnPlace, HasOwnPlaces}
 use Rattle.ix_job.specs.Outside.{Outside, is_done}
@@ -39,7 +38,7 @@ use Rattle.ix_flow.specs.Answer.{NamedDevice, NamedDesign, NamedFlat, NamedCells
 use Rattle.ix_flow.specs.Answer.{IsUnconnected, IsPlaced, IsWritten, cells_in, answer}
 use Rattle.ix_flow.specs.Answer.{IsFlowOutcome}
 use Rattle.ix_flow.specs.Run.{job_for, IsRun, ended}
-use Rattle.ix_flow.specs.Implements.{NamesPlace, KeepsNames, KeepsPlaces, placed_texts, Implements}
+use Rattle.ix_flow.specs.Implements.{HasWholeMap, HaveWholeMaps, placed_texts, Implements}
 use Rattle.ix_flow.specs.Implements.{KeepsDesign, HasImplemented, IsImplemented}
 use Rattle.ix_flow.proofs.Outputs.{answer_refuses}
 use Rattle.ix_fit_legal.specs.Laws.{FitsAreLegal}
@@ -142,42 +141,22 @@ each_placement P (c ∷ cs) (q ∷ ps) (n ∷ ms) h each (suc k) m p at_m at_p =
     by_suc : {a b : ℕ} → suc a ≡ suc b → a ≡ b
     by_suc e = cc
 
--- the netlist of a design's cells implements it
-keeps_names : (rec : DeviceRec) (cells : List FlatCell) (phys : Phys) → IsPlaced rec cells phys
-    → (own : HasOwnPlaces rec cells phys) → KeepsNames rec phys own.places
-keeps_names rec cells phys placed own = record {
+-- each cell has the whole pin map of its place
+have_whole_maps : (rec : DeviceRec) (cells : List FlatCell) (phys : Phys)
+    (own : HasOwnPlaces rec cells phys) → HaveWholeMaps rec phys own.places
+have_whole_maps rec cells phys own = record {
   count = own.places_count ∙ sym own.placements_count;
-  named = each_placement (NamesPlace rec) cells own.places phys.placements own.placements_count
-      (λ k c p m a b e. names_place rec c p m (own.each k c p m a b e));
-  nets = placed.fitted.netlist.nets;
-  properties = placed.fitted.netlist.properties;
+  each = each_placement (HasWholeMap rec) cells own.places phys.placements own.placements_count
+      (λ k c p m a b e. has_whole_map rec c p m (own.each k c p m a b e));
 }
   where
-    names_place : (rec : DeviceRec) (c : FlatCell) (p : Spot) (m : CellPlacement)
-        → IsOnPlace rec c p m → NamesPlace rec m p
-    names_place rec c p m on = record {
+    has_whole_map : (rec : DeviceRec) (c : FlatCell) (p : Spot) (m : CellPlacement)
+        → IsOnPlace rec c p m → HasWholeMap rec m p
+    has_whole_map rec c p m on = record {
       site = on.site;
       bel = on.bel;
       pins = subst (λ (ty : ℕ). IsPinMap rec ty p m.bel m.pin_map) (sym on.ty) on.pins;
     }
-
-keeps_places : (rec : DeviceRec) (cells : List FlatCell) (phys : Phys)
-    (own : HasOwnPlaces rec cells phys) → AllDiffer (map (λ c. c.name) cells)
-    → KeepsPlaces rec phys own.places
-keeps_places rec cells phys own names_differ = record {
-  once = subst AllDiffer
-      (sym (same_maps (λ m. m.cell_name) (λ c. c.name) cells own.places phys.placements
-      own.placements_count own.places_count
-      (λ k c p m a b e. let on : IsOnPlace rec c p m = own.each k c p m a b e in on.cell_name)))
-      names_differ;
-  one_cell = own.apart;
-  admitted = each_placement (λ m p. admits rec m.ty p ≡ true) cells own.places phys.placements
-      own.placements_count
-      (λ k c p m a b e. let on : IsOnPlace rec c p m = own.each k c p m a b e in
-      subst (λ (ty : ℕ). admits rec ty p ≡ true) (sym on.ty) on.admitted);
-  instances = own.instances;
-  one_instance = own.sites_differ;
-}
 
 same_texts : (rec : DeviceRec) (names : List Text) (c : FlatCell) (p : Spot) (m : CellPlacement)
     → IsOnPlace rec c p m → placed_texts names m ≡ cell_texts names c
@@ -227,16 +206,12 @@ implements law device design outcome h =
     let alone : IsUnconnected flat = cells.2.2.0 in
     let same : c ≡ record { names = f.names; cells = flat.cells } = cells.2.2.1 in
     let phys : Phys = rest.2.2.2.0 in
-    let placed_c : IsPlaced d.rec c.cells phys = rest.2.2.2.1 in
-    let placed : IsPlaced d.rec flat.cells phys =
-    subst (λ (xs : List FlatCell). IsPlaced d.rec xs phys) (ap (λ (x : NamedCells). x.cells) same)
-    placed_c in
+    let placed_c : IsPlaced d.rec c phys = rest.2.2.2.1 in
+    let placed : IsPlaced d.rec (record { names = f.names; cells = flat.cells }) phys =
+    subst (λ (x : NamedCells). IsPlaced d.rec x phys) same placed_c in
     let written : IsWritten c phys outcome = rest.2.2.2.2 in
     let decodes : reading phys_netlist written.bytes ≡ Ok (phys_record f.names phys) =
     written.decodes ∙ ap (λ (x : NamedCells). Ok (phys_record x.names phys)) same in
-    let names_differ : AllDiffer (map (λ cell. cell.name) flat.cells) =
-    subst (λ (xs : List FlatCell). AllDiffer (map (λ cell. cell.name) xs)) (sym fixed.cells)
-    is_flat.whole.cells_differ in
     let valid : IsValid h.0 d = h.2.1 in
     let none : NoPin f.flat = λ cell pin. ap (λ m. get m (cell, pin))
     (sym fixed.pins ∙ alone.no_pin) ∙ get-empty pin_order (cell, pin) in (
@@ -258,10 +233,10 @@ implements law device design outcome h =
         phys = phys;
         decodes = decodes;
         places = placed.own.places;
-        l1_l3 = keeps_names d.rec flat.cells phys placed placed.own;
-        l2 = keeps_places d.rec flat.cells phys placed.own names_differ;
+        whole_maps = have_whole_maps d.rec flat.cells phys placed.own;
         legal = law f.names d.rec flat.cells phys (are_plain f.names d.rec f.flat flat
-            valid.valid none is_flat.whole fixed.cells) placed.fitted;
+            valid.valid none is_flat.whole fixed.cells is_flat.most_cells) is_flat.differ placed.named
+            placed.fitted;
         e1_e3 = keeps_design d.rec f.names f.flat flat (fixings f.names d.rec read.rec) phys
             placed.own alone fixed is_flat.range is_flat.whole;
       },

@@ -139,9 +139,10 @@ no_lut names rec flat none whole q cell at =
 -- its cells are plain, and so are those of a design that has the same cells
 pub are_plain : (names : List Text) (rec : DeviceRec) (before flat : Flat)
     → first_broken rec ≡ None → NoPin before → IsWhole names rec before
-    → flat.cells ≡ before.cells → ArePlain rec flat.cells
-are_plain names rec before flat valid none whole same = subst (ArePlain rec) (sym same) record {
+    → flat.cells ≡ before.cells → length before.cells ≤ 2 ^ 22 → ArePlain rec flat.cells
+are_plain names rec before flat valid none whole same most = subst (ArePlain rec) (sym same) record {
   valid = valid;
+  few = omega (arith, most);
   names_differ = whole.cells_differ;
   no_lut = no_lut names rec before none whole;
 }

@@ -1,6 +1,6 @@
 -- What `flow` answers to the contents of its two files, where nothing fails and memory doesn't run
 -- out.
-use Rattle.std.specs.Prelude.{◌≡◌, ◌⊎◌, ℕ, ◌^◌, true, false, nat_lt, List, [], ◌∷◌, length}
+use Rattle.std.specs.Prelude.{◌≡◌, ◌⊎◌, ◌≤◌, ℕ, ◌^◌, true, false, nat_lt, List, [], ◌∷◌, length}
 use Rattle.std.specs.Prelude.{slice_get, Result, Ok, Err, Some, None, if◌then◌else◌}
 use Rattle.std.specs.FinMap.{empty}
 use Rattle.ix_num.specs.declared.fault.FrameFault.{FrameFault}
@@ -33,7 +33,7 @@ use Rattle.ix_device_rules.specs.Broken.{IsBreach}
 use Rattle.ix_device_rules.specs.Rules.{first_broken}
 use Rattle.ix_job.specs.Job.{Content, Outcome}
 use Rattle.ix_job.specs.Chain.{Step, ◌>>=◌, comes_to}
-use Rattle.ix_phys_write.specs.Record.{phys_record}
+use Rattle.ix_phys_write.specs.Record.{phys_record, IsPhysNamed}
 use Rattle.ix_rec.specs.declared.flow.Flat.{Flat}
 use Rattle.ix_rec.specs.declared.flow.FlatCell.{FlatCell}
 use Rattle.ix_rec.specs.declared.netlist.NetlistRec.{NetlistRec}
@@ -153,6 +153,7 @@ pub record IsFlatDesign (rec : DeviceRec) (design : NamedDesign) (f : NamedFlat)
   pub range : IsInRange rec f.flat
   pub named : IsNamed (length f.names) f.flat
   pub whole : IsWhole f.names rec f.flat
+  pub most_cells : length f.flat.cells ≤ 2 ^ 22
 
 -- The first rule of designs that a design breaks, and the name that is told. Flat names may be
 -- among the names by then.
@@ -191,10 +192,12 @@ unconnected names flat (Ok c) =
 unconnected names flat (Err report) = ¬ IsUnconnected flat × (report ≡ NotBuilt Design)
 
 -- The cells are placed by first fit, and this is their netlist: each cell is on a BEL of its own
--- that admits its type, and each used site has one instance.
-pub record IsPlaced (rec : DeviceRec) (cells : List FlatCell) (phys : Phys) : Type 0 where
-  pub fitted : IsFitted rec cells phys
-  pub own : HasOwnPlaces rec cells phys
+-- that admits its type, each used site has one instance, and its names are among those of the
+-- cells.
+pub record IsPlaced (rec : DeviceRec) (c : NamedCells) (phys : Phys) : Type 0 where
+  pub fitted : IsFitted rec c.cells phys
+  pub own : HasOwnPlaces rec c.cells phys
+  pub named : IsPhysNamed c.names phys
 
 -- a type has more cells than the BELs that admit it
 pub record HasTooFew (rec : DeviceRec) (c : NamedCells) (report : reports.Report) : Type 0 where
@@ -215,7 +218,7 @@ pub record HasNoSite (rec : DeviceRec) (c : NamedCells) (report : reports.Report
   pub report_is : report ≡ NoSite cell
 
 abbrev pub placed : DeviceRec → NamedCells → Step Phys
-placed rec c (Ok phys) = IsPlaced rec c.cells phys
+placed rec c (Ok phys) = IsPlaced rec c phys
 placed rec c (Err report) = HasTooFew rec c report ⊎ HasNoSite rec c report
 
 abbrev pub netlist_of : NamedCells → Phys → Value Datum phys_netlist

@@ -1,6 +1,6 @@
 -- What status 0 of `flow` says of the netlist that it wrote. No pin of the flat design is on a net
 -- yet, and so it has no LUT cell: no rule on segments, on trees or on tables has anything to judge.
-use Rattle.std.specs.Prelude.{◌≡◌, ℕ, List, [], ◌∷◌, length, map, slice_get, true, Option, Some}
+use Rattle.std.specs.Prelude.{◌≡◌, ℕ, List, [], ◌∷◌, length, map, slice_get, Option, Some}
 use Rattle.std.specs.Prelude.{None, option_map, option_and_then, Ok}
 use Rattle.std.specs.FinMap.{empty, get}
 use Rattle.ix_frame.specs.Segments.{Segments}
@@ -19,40 +19,25 @@ use Rattle.ix_rec.specs.declared.flow.Flat.{Flat}
 use Rattle.ix_hierarchy.specs.FlatDesign.{cell_texts}
 use Rattle.ix_belmap.specs.Pins.{fixings, IsFixed}
 use Rattle.ix_first_fit.specs.declared.cell.Spot.{Spot}
-use Rattle.ix_first_fit.specs.Spots.{admits}
-use Rattle.ix_first_fit.specs.Netlist.{bel_name, used_sites, IsPinMap, AreInstances}
-use Rattle.ix_first_fit.specs.Laws.{Differ}
+use Rattle.ix_first_fit.specs.Netlist.{bel_name, IsPinMap}
 use Rattle.ix_legal.specs.declared.level.Level.TheVariants.{Routed}
 use Rattle.ix_legal.specs.Legal.{Legal}
 use Rattle.ix_flow.specs.Words.{Flow}
 use Rattle.ix_flow.specs.Answer.{opened, NamedDevice, IsValid, NamedDesign, IsDesignRead}
 use Rattle.ix_flow.specs.Answer.{NamedFlat, IsFlatDesign}
 
--- Rules L1 and L3 at a placement: its site and its BEL are there, and this is the place that they
--- name; its pin map is the device's for its cell type there, whole, so that each pin is there too.
-pub record NamesPlace (rec : DeviceRec) (m : CellPlacement) (p : Spot) : Type 0 where
+-- A placement is on this place: these are the names of its site and BEL, and its pin map is the whole
+-- map of the device for its cell type there.
+pub record HasWholeMap (rec : DeviceRec) (m : CellPlacement) (p : Spot) : Type 0 where
   pub site : name_of_site rec p.site ≡ Some m.site
   pub bel : bel_name rec p ≡ Some m.bel
   pub pins : IsPinMap rec m.ty p m.bel m.pin_map
 
--- Rules L1 and L3: each placement names a place, which admits its cell type, so that the type is
--- there too. There are no segments and no keys of tables.
-pub record KeepsNames (rec : DeviceRec) (phys : Phys) (places : List Spot) : Type 0 where
+-- so is each, on its own
+pub record HaveWholeMaps (rec : DeviceRec) (phys : Phys) (places : List Spot) : Type 0 where
   pub count : length places ≡ length phys.placements
-  pub named : (k : ℕ) (m : CellPlacement) (p : Spot) → slice_get phys.placements k ≡ Some m
-      → slice_get places k ≡ Some p → NamesPlace rec m p
-  pub nets : phys.nets ≡ []
-  pub properties : phys.properties ≡ []
-
--- Rule L2: each cell is placed once; each BEL has one cell, and admits it; each site that is used
--- has one instance, of its own type, and no other site has one.
-pub record KeepsPlaces (rec : DeviceRec) (phys : Phys) (places : List Spot) : Type 0 where
-  pub once : Differ (map (λ m. m.cell_name) phys.placements)
-  pub one_cell : Differ places
-  pub admitted : (k : ℕ) (m : CellPlacement) (p : Spot) → slice_get phys.placements k ≡ Some m
-      → slice_get places k ≡ Some p → admits rec m.ty p ≡ true
-  pub instances : AreInstances rec places phys.site_insts
-  pub one_instance : Differ (used_sites places)
+  pub each : (k : ℕ) (m : CellPlacement) (p : Spot) → slice_get phys.placements k ≡ Some m
+      → slice_get places k ≡ Some p → HasWholeMap rec m p
 
 -- the name and the type of a placed cell, as texts
 abbrev pub placed_texts : List Text → CellPlacement → Option (Text × Text)
@@ -87,8 +72,7 @@ pub record Implements (device design : Content) (output : List ℕ) : Type 0 whe
   pub phys : Phys
   pub decodes : reading phys_netlist output ≡ Ok (phys_record flattened.names phys)
   pub places : List Spot
-  pub l1_l3 : KeepsNames on.rec phys places
-  pub l2 : KeepsPlaces on.rec phys places
+  pub whole_maps : HaveWholeMaps on.rec phys places
   -- it breaks none of the rules L1 to L10
   pub legal : Legal Routed flattened.names on.rec phys
   pub e1_e3 : KeepsDesign flattened.names flat phys

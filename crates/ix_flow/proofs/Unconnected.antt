@@ -1,7 +1,7 @@
 -- A flat design none of whose pins is on a net has no nets and no LUT cells.
 use Rattle.std.proofs.Common.{◌≡◌, ◌∙◌, ap, refl, sym, subst, ℕ, zero, suc, ◌<◌, List, [], ◌∷◌}
 use Rattle.std.proofs.Common.{length, slice_get, Option, Some, None, IsSome, is_some, Bool, true, false}
-use Rattle.std.proofs.Common.{nat_eq, nat_le, ◌&&◌, arith, cond}
+use Rattle.std.proofs.Common.{nat_eq, nat_le, ◌&&◌, ◌≤◌, ◌^◌, arith, cond}
 use Rattle.std.proofs.Common.{Result, Ok, Err, IfOk}
 use Rattle.std.specs.FinMap.{get, len, empty_of_len, len-empty}
 use Rattle.std.specs.Ordering.{nat_cmp}

@@ -10,7 +10,7 @@ use Rattle.ix_rec.specs.declared.place.Rule.{Rule}
 use Rattle.ix_rec.specs.declared.place.Rule.TheVariants.{L1, L2, L3, L4, L5, L6, L7, L8, L9, L10}
 use Rattle.ix_legal.specs.declared.level.Level.TheVariants.{Placed, Routed}
 use Rattle.ix_legal.specs.Segments.{segment_at, depth_at, IsParent, IsSourceRoot, IsStubRoot}
-use Rattle.ix_legal.specs.Spots.{Spot, SegmentAt}
+use Rattle.ix_legal.specs.Spots.{Spot, NetAt, SegmentAt}
 use Rattle.ix_legal.specs.Spots.{Everywhere, IsBefore}
 use Rattle.ix_legal.specs.Trees.{IsFromNode}
 use Rattle.ix_legal.specs.Sharing.{IsRouted}
@@ -61,6 +61,7 @@ routed_no_stubs (SegmentAt zero zero) = omega arith
 routed_no_stubs (SegmentAt zero (suc zero)) = omega arith
 routed_no_stubs (SegmentAt zero (suc (suc zero))) = omega arith
 routed_no_stubs (SegmentAt zero (suc (suc (suc zero)))) = omega arith
+routed_no_stubs (NetAt zero) = tt
 routed_no_stubs spot = tt
 
 pub routed_is_legal : Legal Routed names device (with_net routed)
@@ -151,6 +152,7 @@ kept_before : (other : Spot) → IsBefore other (SegmentAt 0 2)
 kept_before (SegmentAt zero zero) less = omega arith
 kept_before (SegmentAt zero (suc zero)) less = omega arith
 kept_before (SegmentAt zero (suc (suc k))) less = absurd (not_less k less)
+kept_before (NetAt zero) less = tt
 kept_before spot less = tt
 
 pub stub_is_first : IsFirstBroken Routed names device (with_net placed) L10

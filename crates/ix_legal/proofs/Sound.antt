@@ -1,5 +1,5 @@
 -- The small netlists are such as rules are asked of.
-use Rattle.std.proofs.Common.{◌≡◌, ◌∙◌, ap, refl, sym, subst, ℕ, zero, suc, arith, List, [], ◌∷◌}
+use Rattle.std.proofs.Common.{◌≡◌, ◌<◌, ◌∙◌, ap, refl, sym, subst, ℕ, zero, suc, arith, List, [], ◌∷◌}
 use Rattle.std.proofs.Common.{codes}
 use Rattle.std.specs.Prelude.{slice_get, Some, length}
 use Rattle.std.specs.List.{All, AllByRecursion, position_or_len}
@@ -8,6 +8,7 @@ use Rattle.std.proofs.lemmas.List.Elements.{All-from_recursion}
 use Rattle.std.proofs.lemmas.Option.{none-some, same_Some}
 use Rattle.ix_message.specs.Shape.{Text}
 use Rattle.ix_strings.specs.Names.{AllDiffer}
+use Rattle.ix_rec.specs.Forest.{IsPreorder}
 use Rattle.ix_rec.specs.declared.forest.Branch.{Branch}
 use Rattle.ix_rec.specs.declared.phys.PhysNet.{PhysNet}
 use Rattle.ix_rec.specs.declared.phys.Segment.{Segment}
@@ -78,21 +79,22 @@ sound net named preorder short = record {
         pin_map = all_named (IsMappingNamed names) first_cell.pin_map
             (record { cell_pin = omega arith; bel = omega arith; bel_pin = omega arith }, tt);
       },
-      record {
-        cell_name = omega arith;
-        ty = omega arith;
-        site = omega arith;
-        bel = omega arith;
-        pin_map = all_named (IsMappingNamed names) second_cell.pin_map
-            (record { cell_pin = omega arith; bel = omega arith; bel_pin = omega arith }, tt);
-      },
-      tt,
+      (
+        record {
+          cell_name = omega arith;
+          ty = omega arith;
+          site = omega arith;
+          bel = omega arith;
+          pin_map = all_named (IsMappingNamed names) second_cell.pin_map
+              (record { cell_pin = omega arith; bel = omega arith; bel_pin = omega arith }, tt);
+        },
+        tt,
+      ),
     );
     nets = all_named (IsNetNamed names) (net ∷ []) (named, tt);
     site_insts = all_named (IsInstanceNamed names) (with_net net).site_insts (
       record { site = omega arith; ty = omega arith },
-      record { site = omega arith; ty = omega arith },
-      tt,
+      (record { site = omega arith; ty = omega arith }, tt),
     );
     properties = all_named (IsPropertyNamed names) [] tt;
   };
@@ -104,25 +106,26 @@ routed_is_sound = sound routed record {
   name = omega arith;
   sources = all_named (IsSegmentNamed names) routed.sources (
     segment_named 0 driver (omega arith) (omega arith) (omega arith),
-    segment_named 1 leaves (omega arith) (omega arith) (omega arith),
-    segment_named 2 enters (omega arith) (omega arith) (omega arith),
-    segment_named 3 sink (omega arith) (omega arith) (omega arith),
-    tt,
+    (
+      segment_named 1 leaves (omega arith) (omega arith) (omega arith),
+      (
+        segment_named 2 enters (omega arith) (omega arith) (omega arith),
+        (segment_named 3 sink (omega arith) (omega arith) (omega arith), tt),
+      ),
+    ),
   );
   stubs = all_named (IsSegmentNamed names) [] tt;
-} (((omega arith, omega arith, omega arith, omega arith, tt), tt), tt) (omega arith, omega arith)
+} (((omega arith, (omega arith, (omega arith, (omega arith, tt)))), tt), tt) (omega arith, omega arith)
 
 pub placed_is_sound : IsSound names (with_net placed)
 placed_is_sound = sound placed record {
   name = omega arith;
   sources = all_named (IsSegmentNamed names) placed.sources (
     segment_named 0 driver (omega arith) (omega arith) (omega arith),
-    segment_named 1 leaves (omega arith) (omega arith) (omega arith),
-    tt,
+    (segment_named 1 leaves (omega arith) (omega arith) (omega arith), tt),
   );
   stubs = all_named (IsSegmentNamed names) placed.stubs (
     segment_named 0 enters (omega arith) (omega arith) (omega arith),
-    segment_named 1 sink (omega arith) (omega arith) (omega arith),
-    tt,
+    (segment_named 1 sink (omega arith) (omega arith) (omega arith), tt),
   );
-} (((omega arith, omega arith, tt), (omega arith, omega arith, tt)), tt) (omega arith, omega arith)
+} (((omega arith, (omega arith, tt)), (omega arith, (omega arith, tt))), tt) (omega arith, omega arith)

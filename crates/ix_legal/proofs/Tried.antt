@@ -270,6 +270,7 @@ module _ (net : PhysNet) (is : IsChain net) where
 
   all_joined : Everywhere (IsJoined device (with_net net))
   all_joined (SegmentAt zero k) = leaves_parent k
+  all_joined (NetAt zero) = tt
   all_joined spot = tt
 
   is_driver : (k : ℕ) (s : Segment) → segment_at net k ≡ Some s → k ≡ 0
@@ -317,6 +318,7 @@ module _ (net : PhysNet) (is : IsChain net) where
 
   apart : Everywhere (IsApart device (with_net net))
   apart (SegmentAt zero k) = enters_alone k
+  apart (NetAt zero) = tt
   apart spot = tt
 
   -- the net is the first, and no end of it is a node of a constant
@@ -332,11 +334,13 @@ module _ (net : PhysNet) (is : IsChain net) where
 
   pub unshared : (level : Level) → Everywhere (IsUnshared level device (with_net net))
   unshared level (SegmentAt zero k) = shares_nothing level k
+  unshared level (NetAt zero) = tt
   unshared level spot = tt
 
   used : Everywhere (IsInUse (with_net net))
   used (SegmentAt zero k) = subst (λ o. IfSome o (λ s. SiteInUse s.kind (with_net net) s))
       (sym (is.segments k)) (in_use net k)
+  used (NetAt zero) = tt
   used spot = tt
 
   no_lut : (cell_type : ℕ) (lut : LutCell) → lut_cell_of device cell_type ≡ Some lut → ⊥

@@ -18,7 +18,7 @@ pub unshared_placed : (rec : DeviceRec) (phys : Phys) (spot : Spot)
     → IsUnshared Routed rec phys spot → IsUnshared Placed rec phys spot
 unshared_placed rec phys (InstanceAt i) h = tt
 unshared_placed rec phys (PlacementAt i) h = tt
-unshared_placed rec phys (NetAt n) h = tt
+unshared_placed rec phys (NetAt n) h = h
 unshared_placed rec phys (SegmentAt n k) h = IfSome_then (slice_get phys.nets n) h (λ net shares. record {
   of_one_net = λ r earlier other is counts. shares.of_one_net r earlier other is (counts_routed rec phys r);
   own_constant = λ r c is counts. shares.own_constant r c is (counts_routed rec phys r);

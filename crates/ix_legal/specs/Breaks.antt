@@ -1,5 +1,6 @@
 -- How what is told of a rule on nets and segments is made up, net by net.
 use Rattle.std.proofs.Common.{◌≡◌, ◌⊎◌, ◌<◌, ◌∙◌, ap, refl, sym, subst, ℕ, suc, arith, inl, inr}
+use Rattle.std.proofs.Common.{List}
 use Rattle.std.specs.Prelude.{length, slice_get, Option, Some, None, IfSome}
 use Rattle.std.proofs.lemmas.Bool.{cases_order, cases_lt}
 use Rattle.std.proofs.lemmas.Option.{none-some, same_Some, slice_get_within}

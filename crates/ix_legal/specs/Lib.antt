@@ -14,6 +14,5 @@ pub mod Legal
 pub mod Laws
 -- Netlists on which the rules are tried.
 pub mod Small
-
 -- For private contracts and proofs: how crates that judge netlists make up what they tell.
 pub mod Breaks

@@ -12,7 +12,9 @@ use Rattle.ix_device.specs.Lookups.{sites_of, type_of_site}
 use Rattle.ix_graph.specs.Ends.{ends}
 use Rattle.ix_graph.specs.Nodes.{nodes}
 use Rattle.ix_legal.specs.Segments.{NetNumber, SegmentNumber, segments, segment_at}
-use Rattle.ix_legal.specs.Spots.{Spot, SegmentAt, OfSegments, IsFirstBreak}
+use Rattle.ix_legal.specs.declared.spot.Spot.{Spot}
+use Rattle.ix_legal.specs.declared.spot.Spot.TheVariants.{SegmentAt}
+use Rattle.ix_legal.specs.Spots.{OfSegments, IsFirstBreak}
 use Rattle.ix_legal.specs.Names.{SegmentHasEnds}
 use Rattle.ix_ends.specs.declared.pair.Pair.{Pair}
 use Rattle.ix_ends.specs.declared.ends.EndsFault.{EndsFault}

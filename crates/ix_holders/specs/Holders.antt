@@ -8,7 +8,8 @@ use Rattle.ix_rec.specs.declared.phys.PhysNet.{PhysNet}
 use Rattle.ix_legal.specs.declared.level.Level.{Level}
 use Rattle.ix_legal.specs.Segments.{NetNumber}
 use Rattle.ix_legal.specs.Holders.{HasEnd}
-use Rattle.ix_legal.specs.Spots.{SegmentAt, IsFirstBreak}
+use Rattle.ix_legal.specs.declared.spot.Spot.TheVariants.{SegmentAt}
+use Rattle.ix_legal.specs.Spots.{IsFirstBreak}
 use Rattle.ix_legal.specs.Sharing.{IsUnshared}
 use Rattle.ix_ends.specs.Ends.{EndsSeen, ResNumber, IsNumbered}
 use Rattle.ix_holders.specs.declared.holders.SharingFault.{SharingFault}

@@ -13,7 +13,8 @@ use Rattle.ix_rec.specs.declared.phys.BranchKind.TheVariants.{Pip}
 use Rattle.ix_legal.specs.declared.level.Level.{Level}
 use Rattle.ix_legal.specs.Segments.{NetNumber, SegmentNumber, segment_at, IsEnd}
 use Rattle.ix_legal.specs.Holders.{constant_of, constant_of_net}
-use Rattle.ix_legal.specs.Spots.{SegmentAt, Everywhere, IsFirstBreak}
+use Rattle.ix_legal.specs.declared.spot.Spot.TheVariants.{SegmentAt}
+use Rattle.ix_legal.specs.Spots.{Everywhere, IsFirstBreak}
 use Rattle.ix_legal.specs.Sharing.{Counts, SharesNothing, IsUnshared}
 use Rattle.ix_ends.specs.declared.pair.Pair.{Pair}
 use Rattle.ix_ends.specs.Ends.{EndsSeen, ResNumber, IsNumbered, HasNumbers}

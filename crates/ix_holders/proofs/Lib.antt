@@ -1,1 +1,4 @@
 pub mod Marking
+pub mod Sharing
+pub mod Netting
+pub mod Counting

@@ -4,9 +4,8 @@ use Rattle.std.proofs.Common.{List, length, map, slice_get, Option, Some, None, 
 use Rattle.std.proofs.Common.{option_map, option_and_then, arith}
 use Rattle.std.specs.List.{position, position_or_len, list_any, range_with_len}
 use Rattle.std.proofs.lemmas.Bool.{ltb-true}
-use Rattle.std.proofs.lemmas.Option.{none-some, same_Some, slice_get-get_or, slice_get_within}
+use Rattle.std.proofs.lemmas.Option.{none-some, same_Some, slice_get-get_or}
 use Rattle.std.proofs.lemmas.List.FromFn.{get_or-map-range_with_len, length-map-range_with_len}
-use Rattle.ix_graph.proofs.NumberLemmas.{count_nodes}
 use Rattle.ix_num.specs.declared.resource.Res.{Res}
 use Rattle.ix_num.specs.declared.resource.Res.TheVariants.{Node, Wire}
 use Rattle.ix_rec.specs.declared.device.DeviceRec.{DeviceRec}
@@ -15,7 +14,7 @@ use Rattle.ix_rec.specs.declared.device.Direction.{Direction}
 use Rattle.ix_rec.specs.declared.device.Direction.TheVariants.{Input, Output, Inout}
 use Rattle.ix_rec.specs.declared.phys.BranchKind.{BranchKind}
 use Rattle.ix_rec.specs.declared.phys.BranchKind.TheVariants.{BelPin, SitePin, Pip, SitePip}
-use Rattle.ix_device.specs.Lookups.{sites_of, site_named, type_of_site, tile_named, tile_of_site}
+use Rattle.ix_device.specs.Lookups.{site_named, type_of_site, tile_named, tile_of_site}
 use Rattle.ix_device.specs.Lookups.{in_type, wire_in, site_pin_in, wire_of_site_pin}
 use Rattle.ix_device.specs.SitePips.{site_pip_from}
 use Rattle.ix_graph.specs.Constants.{constant_of_node}
@@ -27,9 +26,9 @@ use Rattle.ix_graph.specs.Named.{pip_named}
 use Rattle.ix_graph.specs.Nodes.{nodes, nodes_from}
 use Rattle.ix_graph.specs.Pips.{enters_at, leaves_at}
 use Rattle.ix_graph.proofs.GraphLemmas.{node_below}
-use Rattle.ix_graph.proofs.NumberLemmas.{all_below}
+use Rattle.ix_graph.proofs.NumberLemmas.{all_below, count_nodes}
 use Rattle.ix_ends.specs.Ends.{IsThere}
-use Rattle.ix_ends.specs.Laws.{EndsAreThere, GraphHasConstants}
+use Rattle.ix_ends.specs.Laws.{EndsAreThere, GraphHasConstants, GraphHasNodes}
 use Rattle.ix_ends.proofs.Items.{mapped, chained}
 
 place_below : {X : Type 0} (p : X → Bool) (xs : List X) (n : ℕ) → position p xs ≡ Some n
@@ -154,9 +153,11 @@ named_pip_there rec first second third forward p h =
     let pip = chained (ends_at (graph_of rec).wires)
     (option_and_then (λ t. pip_named rec t second third forward) (tile_named rec first)) two.0
     two.1 in
-    let from = chained {B = ℕ × ℕ} (λ n. option_map (λ m. (n, m)) (to_node (graph_of rec).wires pip.0))
+    let from = chained {B = ℕ × ℕ} (λ n.
+    option_map (λ m. (n, m)) (to_node (graph_of rec).wires pip.0))
     (from_node (graph_of rec).wires pip.0) two.0 pip.2 in
-    let to = mapped {B = ℕ × ℕ} (λ m. (from.0, m)) (to_node (graph_of rec).wires pip.0) two.0 from.2 in
+    let to = mapped {B = ℕ × ℕ} (λ m. (from.0, m)) (to_node (graph_of rec).wires pip.0) two.0
+    from.2 in
     subst (AreThere rec) two.2 (subst {A = ℕ × ℕ} (λ ns. AreThere rec (Node ns.0, Node ns.1)) to.2 (
       node_inside rec pip.0.tile (enters_at pip.0) from.0 from.1,
       node_inside rec pip.0.tile (leaves_at pip.0) to.0 to.1,
@@ -184,22 +185,13 @@ unfolding graph_of
 constants_there rec n lt =
     let all = map (constant_of_node rec) (range_with_len 0 (length (nodes rec))) in
     let count : length (map (constant_of_node rec) (range_with_len 0 (length (nodes rec))))
-    ≡ length (nodes rec) = length-map-range_with_len (constant_of_node rec) 0 (length (nodes rec)) in
+    ≡ length (nodes rec)
+    = length-map-range_with_len (constant_of_node rec) 0 (length (nodes rec)) in
     slice_get-get_or all n None (omega arith)
     ∙ ap Some (get_or-map-range_with_len (constant_of_node rec) 0 (length (nodes rec)) n n None lt
     (omega arith))
 
--- a site of which a wire is there is there
-pub site_there : (rec : DeviceRec) (site wire : ℕ) → IsThere rec (Wire site wire)
-    → site < length (sites_of rec)
-site_there rec site wire there =
-    let ty = mapped (λ (u : SiteType). length u.site_wires)
-    (option_and_then (slice_get rec.site_type_list) (type_of_site rec site)) there.0 there.1 in
-    let t = chained (slice_get rec.site_type_list) (type_of_site rec site) ty.0 ty.1 in
-    let s = chained _ (slice_get (sites_of rec) site) t.0 t.1 in
-    slice_get_within (sites_of rec) site s.0 s.1
-
--- the graph has the first wire of each node
-pub nodes_there : (rec : DeviceRec) → length (graph_of rec).firsts ≡ length (nodes rec)
+-- The graph has the device's nodes.
+pub nodes_there : GraphHasNodes
 unfolding graph_of
 nodes_there rec = count_nodes rec

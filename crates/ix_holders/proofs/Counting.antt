@@ -1,8 +1,8 @@
 -- Which resources count.
 use Rattle.std.proofs.Common.{◌≡◌, ◌≢◌, ◌⊎◌, ◌↔◌, ◌<◌, ◌≤◌, ◌+◌, ◌∙◌, ap, refl, sym, subst, ℕ, zero, suc, arith}
 use Rattle.std.proofs.Common.{List, [], ◌∷◌, ◌++◌, length, set, length-set, inl, inr, Bool, true, false}
-use Rattle.std.proofs.Common.{cond, nat_lt, if◌then◌else◌, replicate}
-use Rattle.std.specs.Prelude.{slice_get, Option, Some, None, is_none}
+use Rattle.std.proofs.Common.{cond, nat_lt, if◌then◌else◌, replicate, take, drop}
+use Rattle.std.specs.Prelude.{slice_get, Option, Some, None, is_none, is_some, not}
 use Rattle.std.proofs.lemmas.Bool.{cases_eq, cases_lt, true≢false, ltb-true, lt-ltb}
 use Rattle.std.proofs.lemmas.List.{length-append, length-replicate}
 use Rattle.std.proofs.lemmas.Option.{none-some, same_Some, slice_get_within}
@@ -62,6 +62,10 @@ is_wire_number number nodes node is = by (nat_lt number nodes) refl
           ],
           λ le. none,
         )
+
+pub is_none_of : (b : Bool) (o : Option ℕ) → is_some o ≡ not b → is_none o ≡ b
+is_none_of true o e = ap not e
+is_none_of false o e = ap not e
 
 pub no_wires : (seen : EndsSeen) → AreOfWires seen 0 []
 no_wires seen = record { all = refl; each = λ number lt. absurd (omega (arith, lt)) }
@@ -402,3 +406,13 @@ all_counted rec seen phys marks are = record {
     counts : (r : Res) → Counts Routed rec phys r
     counts (Node n) = tt
     counts (Wire site wire) = tt
+
+-- what was written through a slice of a whole vector is what the vector has then
+pub written : {A : Type 0} (count : ℕ) (new old : List A) → length new ≡ count
+    → take count (new ++ drop (length new) old) ≡ new
+written count new old long = ap (λ n. take n (new ++ drop (length new) old)) (sym long)
+    ∙ front new (drop (length new) old)
+  where
+    front : {A : Type 0} (xs ys : List A) → take (length xs) (xs ++ ys) ≡ xs
+    front [] ys = refl
+    front (x ∷ xs) ys = ap (λ zs. x ∷ zs) (front xs ys)

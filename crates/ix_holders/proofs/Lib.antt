@@ -2,3 +2,4 @@ pub mod Marking
 pub mod Sharing
 pub mod Netting
 pub mod Counting
+pub mod Ending

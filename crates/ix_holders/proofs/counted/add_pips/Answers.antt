@@ -48,7 +48,7 @@ loop-k-preserved c =
       | in_default w ↦ subst (CountedAt c.args.device.now c.args.ends.now c.args.phys.now c.args.net
           (suc c.loop-k.k)) (sym w.marks-is) (other_counted c.args.device.now c.args.ends.now
           c.args.phys.now c.requires.ends c.args.net c.at-segments.result.now c.loop-k.k
-          c.segment_at.result.now pair here ? c.loop-k.marks c.loop-k.invariant)
+          c.segment_at.result.now pair here w.in_default.not-Pip c.loop-k.marks c.loop-k.invariant)
     ])
 pub returns : goal.returns
 returns c =

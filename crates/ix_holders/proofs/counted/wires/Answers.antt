@@ -1,6 +1,7 @@
-use Rattle.std.proofs.Common.{◌≡◌, ◌≤◌, ◌↔◌, ◌+◌, true, not, ap, ℕ, suc, subst, sym, arith}
+use Rattle.std.proofs.Common.{◌≡◌, ◌≤◌, ◌↔◌, ◌+◌, true, ℕ, suc, subst, sym, arith}
 use Rattle.ix_holders.specs.Marks.{AreOfWires}
-use Rattle.ix_holders.proofs.Counting.{no_wires, one_more_wire, is_wire_number, wires_counted}
+use Rattle.ix_holders.proofs.Counting.{no_wires, one_more_wire, is_wire_number, is_none_of}
+use Rattle.ix_holders.proofs.Counting.{wires_counted}
 use Rattle.ix_holders.proofs.counted.wires.Goals as goal
 
 pub loop-number-init : goal.loop-number-init
@@ -11,7 +12,7 @@ loop-number-preserved c = subst (AreOfWires c.args.ends.now (c.loop-number.numbe
     (sym c.in_ok-push.ensures.items)
     (one_more_wire c.args.ends.now c.loop-number.number c.loop-number.marks.items c.is_none.result
     c.loop-number.invariant
-    (subst (λ b. (b ≡ true) ↔ (c.args.ends.now.nodes ≤ c.loop-number.number)) (ap not (sym c.is_none.ensures))
+    (subst (λ b. (b ≡ true) ↔ (c.args.ends.now.nodes ≤ c.loop-number.number)) (is_none_of c.is_none.result c.node.result c.is_none.ensures)
     (is_wire_number c.loop-number.number c.args.ends.now.nodes c.node.result c.node.ensures)))
 
 pub returns : goal.returns

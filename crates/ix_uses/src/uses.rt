@@ -5,7 +5,7 @@ ghost use Rattle.ix_legal.specs.Legal.{IsSound};
 ghost use Rattle.ix_legal.specs.Names.{IsNamed};
 ghost use Rattle.ix_legal.specs.Placements.{IsPlaced};
 ghost use Rattle.ix_legal.specs.Spots.{Everywhere};
-ghost use Rattle.ix_uses.specs.Uses.{AreUses, IsRefused};
+ghost use Rattle.ix_uses.specs.Uses.{AreUses, IsRefused, is_used, holds_cell};
 
 use crate::fault::UsesFault;
 use ix_device::Device;
@@ -13,6 +13,7 @@ use ix_keys::{Key, Keys};
 use ix_num::NameId;
 use ix_rec::Phys;
 use ix_strings::Names;
+use ix_walk::NameMarks;
 use std::alloc::Global;
 use std::marker::Model;
 
@@ -20,21 +21,16 @@ use std::marker::Model;
 /// name of the run's table, and a table of the placements.
 #[derive(Drop)]
 pub struct Uses {
-    sites: Vec<bool>,
+    sites: NameMarks,
     bels: Keys,
 }
 
 impl Model for Uses {
-    ghost use Rattle.std.specs.Prelude.{slice_index_or, false};
-    ghost use Rattle.ix_keys.specs.Keys.{has_key, key};
     ghost use Rattle.ix_uses.specs.Uses.{UsesSeen};
 
     ghost Value = { UsesSeen };
 
-    ghost view = { λ u. record {
-        in_use = λ site. slice_index_or u.sites.items site false;
-        has_cell = λ site bel. has_key u.bels (key site bel 0)
-    } };
+    ghost view = { λ u. record { sites = u.sites; bels = u.bels } };
 }
 
 impl Uses {
@@ -60,18 +56,17 @@ impl Uses {
     }
 
     /// Whether a site of this name has an instance. A name past the table's has none.
+    #[tactic(auto, unfolding(crate::specs::Uses::is_used))]
     pub fn has_instance(&self, site: NameId) -> bool
-        ensures { result ≡ self.now.in_use site }
+        ensures { result ≡ is_used self.now site }
     {
-        match self.sites.as_slice().get(site.get() as usize) {
-            Some(in_use) => *in_use,
-            None => false,
-        }
+        self.sites.has(site)
     }
 
     /// Whether a cell is on a BEL of a site, by their names. The two are hashed once.
+    #[tactic(auto, unfolding(crate::specs::Uses::holds_cell))]
     pub fn has_cell(&self, site: NameId, bel: NameId) -> bool
-        ensures { result ≡ self.now.has_cell site bel }
+        ensures { result ≡ holds_cell self.now site bel }
     {
         self.bels.has(Key::new(site.get(), bel.get(), 0))
     }

@@ -1,0 +1,56 @@
+-- One item of a list more.
+use Rattle.std.proofs.Common.{◌≡◌, ◌⊎◌, ◌<◌, ◌≤◌, ◌+◌, ◌∙◌, ap, sym, refl, subst, ℕ, suc, zero}
+use Rattle.std.proofs.Common.{List, [], ◌∷◌, ◌++◌, length, take, map, get_or, Bool, true, false}
+use Rattle.std.proofs.Common.{◌||◌, arith, inl, inr}
+use Rattle.std.specs.Prelude.{not, nat_eq, slice_get, Option, Some, None}
+use Rattle.std.specs.List.{list_any}
+use Rattle.std.proofs.lemmas.Bool.{cases_lt}
+use Rattle.std.proofs.lemmas.List.{map_more}
+use Rattle.std.proofs.lemmas.List.Folds.{list_any-append}
+use Rattle.std.proofs.lemmas.Option.{same_Some, slice_get_within, get_or_from_slice_get}
+use Rattle.ix_num.specs.Numbers.{NameNumber}
+use Rattle.ix_device_rules.specs.Rules.{is_new}
+use Rattle.ix_walk.specs.Marks.{Marks, has_mark, AreNamesOf}
+use Rattle.ix_walk.specs.Firsts.{AllFit}
+
+pub none_fit : {A : Type 0} (Fits : ℕ → A → Type 0) (xs : List A) → AllFit Fits xs 0
+none_fit Fits xs i x lt is = absurd (omega (arith, lt))
+
+pub one_more_fits : {A : Type 0} (Fits : ℕ → A → Type 0) (xs : List A) (n : ℕ) (x : A)
+    → slice_get xs n ≡ Some x → AllFit Fits xs n → Fits n x → AllFit Fits xs (n + 1)
+one_more_fits Fits xs n x is before fits i y lt at = elim (cases_lt i n) [
+  | inl less ↦ before i y less at
+  | inr le ↦ let same : i ≡ n = omega (arith, lt, le) in
+      subst (λ j. Fits j y) (sym same)
+      (subst (Fits n) (same_Some x y (sym is ∙ ap (slice_get xs) (sym same) ∙ at)) fits)
+]
+
+-- an item more, whose name was met
+pub one_more_named : {A : Type 0} (name_of : A → NameNumber) (xs : List A) (n : ℕ) (x : A)
+    (before after : Marks) → slice_get xs n ≡ Some x → AreNamesOf name_of (take n xs) before
+    → ((other : NameNumber)
+    → has_mark after other ≡ (nat_eq other (name_of x) || has_mark before other))
+    → AreNamesOf name_of (take (n + 1) xs) after
+one_more_named name_of xs n x before after is were met other =
+    let at : get_or xs n x ≡ x = get_or_from_slice_get xs n x x is in
+    let more : list_any (nat_eq other) (map name_of (take (n + 1) xs))
+        ≡ (list_any (nat_eq other) (map name_of (take n xs)) || (nat_eq other (name_of x) || false))
+        = ap (list_any (nat_eq other)) (map_more name_of xs n x (slice_get_within xs n x is))
+        ∙ list_any-append (nat_eq other) (map name_of (take n xs)) _
+        ∙ ap (λ y. list_any (nat_eq other) (map name_of (take n xs))
+        || (nat_eq other (name_of y) || false)) at in
+    met other ∙ ap (λ b. nat_eq other (name_of x) || b) (were other)
+    ∙ turned (nat_eq other (name_of x)) (list_any (nat_eq other) (map name_of (take n xs)))
+    ∙ sym more
+  where
+    turned : (a b : Bool) → (a || b) ≡ (b || (a || false))
+    turned true true = refl
+    turned true false = refl
+    turned false true = refl
+    turned false false = refl
+
+-- a name is new where no item before has it
+pub new_among : {A : Type 0} (name_of : A → NameNumber) (xs : List A) (marks : Marks)
+    (name : NameNumber) (new : Bool) → AreNamesOf name_of xs marks
+    → new ≡ not (has_mark marks name) → is_new (map name_of xs) name ≡ new
+new_among name_of xs marks name new are is = sym (is ∙ ap not (are name))

@@ -3,6 +3,8 @@
 #![tactic(auto)]
 
 mod fault;
+mod instances;
+mod placements;
 mod uses;
 
 pub use fault::UsesFault;

@@ -1,15 +1,19 @@
 //! The uses of a netlist.
 
-ghost use Rattle.std.specs.Prelude.{◌≡◌, IfOk};
+ghost use Rattle.std.specs.Prelude.{◌≡◌, ◌<◌, ◌^◌, length, IfOk};
 ghost use Rattle.ix_legal.specs.Legal.{IsSound};
-ghost use Rattle.ix_legal.specs.Names.{IsNamed};
 ghost use Rattle.ix_legal.specs.Placements.{IsPlaced};
 ghost use Rattle.ix_legal.specs.Spots.{Everywhere};
+ghost use Rattle.ix_walk.specs.Marks.{AreNamesOf};
+ghost use Rattle.ix_uses.specs.Fitting.{AllInstancesFit, AreInside, cell_of, site_of};
 ghost use Rattle.ix_uses.specs.Uses.{AreUses, IsRefused, is_used, holds_cell};
 
 use crate::fault::UsesFault;
+use crate::instances::first_misused;
+use crate::placements::first_misplaced;
 use ix_device::Device;
 use ix_keys::{Key, Keys};
+use ix_legal::Spot;
 use ix_num::NameId;
 use ix_rec::Phys;
 use ix_strings::Names;
@@ -34,7 +38,7 @@ impl Model for Uses {
 }
 
 impl Uses {
-    /// The uses of a netlist that keeps L1; or the first place at which it breaks L2. It takes time
+    /// The uses of a netlist; or the first place at which it breaks L2. It takes time
     /// by the instances and placements, and memory for a byte a name and a table of the placements.
     ///
     /// # Errors
@@ -47,12 +51,41 @@ impl Uses {
         names: &Names,
     ) -> Result<Uses, UsesFault>
         requires sound { IsSound names.now phys.now }
-        requires named { Everywhere (IsNamed names.now device.now phys.now) }
         ensures uses { IfOk result (AreUses phys.now) }
         ensures kept { IfOk result (λ uses. Everywhere (IsPlaced device.now phys.now)) }
         ensures broken { IsRefused device.now phys.now result }
     {
-        Err(UsesFault::Memory)
+        let count = names.len();
+        let mut sites = NameMarks::new(alloc, count)?;
+        match first_misused(device, &phys.site_insts, &mut sites) {
+            Some(i) => Err(UsesFault::Broken(Spot::InstanceAt(i))),
+            None => Uses::with_cells(alloc, device, phys, sites, count),
+        }
+    }
+
+    // The uses of a netlist whose sites are marked; the names of its cells are below the count.
+    fn with_cells(
+        alloc: Global,
+        device: &Device,
+        phys: &Phys,
+        sites: NameMarks,
+        count: u32,
+    ) -> Result<Uses, UsesFault>
+        requires few { length phys.now.placements < 2 ^ 32 }
+        requires inside { AreInside cell_of phys.now.placements count }
+        requires fit { AllInstancesFit device.now phys.now }
+        requires marked { AreNamesOf site_of phys.now.site_insts sites }
+        ensures uses { IfOk result (AreUses phys.now) }
+        ensures kept { IfOk result (λ uses. Everywhere (IsPlaced device.now phys.now)) }
+        ensures broken { IsRefused device.now phys.now result }
+    {
+        let mut cells = NameMarks::new(alloc, count)?;
+        let mut bels = Keys::new(alloc);
+        match first_misplaced(device, phys, &sites, &mut cells, &mut bels) {
+            Ok(Some(i)) => Err(UsesFault::Broken(Spot::PlacementAt(i))),
+            Ok(None) => Ok(Uses { sites, bels }),
+            Err(_) => Err(UsesFault::Memory),
+        }
     }
 
     /// Whether a site of this name has an instance. A name past the table's has none.

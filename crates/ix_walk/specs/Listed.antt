@@ -1,10 +1,10 @@
 -- One item of a list more.
-use Rattle.std.proofs.Common.{◌≡◌, ◌⊎◌, ◌<◌, ◌≤◌, ◌+◌, ◌∙◌, ap, sym, refl, subst, ℕ, suc, zero}
-use Rattle.std.proofs.Common.{List, [], ◌∷◌, ◌++◌, length, take, map, get_or, Bool, true, false}
+use Rattle.std.proofs.Common.{◌≡◌, ◌≤◌, ◌+◌, ◌∙◌, ap, sym, refl, subst, ℕ}
+use Rattle.std.proofs.Common.{List, [], ◌∷◌, length, take, map, get_or, Bool, true, false}
 use Rattle.std.proofs.Common.{◌||◌, arith, inl, inr}
-use Rattle.std.specs.Prelude.{not, nat_eq, slice_get, Option, Some, None}
+use Rattle.std.specs.Prelude.{not, nat_eq, slice_get, Some}
 use Rattle.std.specs.List.{list_any}
-use Rattle.std.proofs.lemmas.Bool.{cases_lt}
+use Rattle.std.proofs.lemmas.Bool.{cases_lt, cases_eq, eq-eqb, ne_eqb}
 use Rattle.std.proofs.lemmas.List.{map_more}
 use Rattle.std.proofs.lemmas.List.Folds.{list_any-append}
 use Rattle.std.proofs.lemmas.Option.{same_Some, slice_get_within, get_or_from_slice_get}
@@ -34,11 +34,11 @@ pub one_more_named : {A : Type 0} (name_of : A → NameNumber) (xs : List A) (n 
 one_more_named name_of xs n x before after is were met other =
     let at : get_or xs n x ≡ x = get_or_from_slice_get xs n x x is in
     let more : list_any (nat_eq other) (map name_of (take (n + 1) xs))
-        ≡ (list_any (nat_eq other) (map name_of (take n xs)) || (nat_eq other (name_of x) || false))
-        = ap (list_any (nat_eq other)) (map_more name_of xs n x (slice_get_within xs n x is))
-        ∙ list_any-append (nat_eq other) (map name_of (take n xs)) _
-        ∙ ap (λ y. list_any (nat_eq other) (map name_of (take n xs))
-        || (nat_eq other (name_of y) || false)) at in
+    ≡ (list_any (nat_eq other) (map name_of (take n xs)) || (nat_eq other (name_of x) || false))
+    = ap (list_any (nat_eq other)) (map_more name_of xs n x (slice_get_within xs n x is))
+    ∙ list_any-append (nat_eq other) (map name_of (take n xs)) _
+    ∙ ap (λ y. list_any (nat_eq other) (map name_of (take n xs))
+    || (nat_eq other (name_of y) || false)) at in
     met other ∙ ap (λ b. nat_eq other (name_of x) || b) (were other)
     ∙ turned (nat_eq other (name_of x)) (list_any (nat_eq other) (map name_of (take n xs)))
     ∙ sym more
@@ -54,3 +54,22 @@ pub new_among : {A : Type 0} (name_of : A → NameNumber) (xs : List A) (marks :
     (name : NameNumber) (new : Bool) → AreNamesOf name_of xs marks
     → new ≡ not (has_mark marks name) → is_new (map name_of xs) name ≡ new
 new_among name_of xs marks name new are is = sym (is ∙ ap not (are name))
+
+pub nat_eq_sym : (a b : ℕ) → nat_eq a b ≡ nat_eq b a
+nat_eq_sym a b = elim (cases_eq a b) [
+  | inl same ↦ eq-eqb a b same ∙ sym (eq-eqb b a (sym same))
+  | inr apart ↦ ne_eqb a b apart ∙ sym (ne_eqb b a (λ same. apart (sym same)))
+]
+
+-- an item has this name
+pub named_among : {A : Type 0} (name_of : A → NameNumber) (xs : List A) (name : NameNumber)
+    → list_any (nat_eq name) (map name_of xs) ≡ list_any (λ x. nat_eq (name_of x) name) xs
+named_among name_of [] name = refl
+named_among name_of (x ∷ xs) name =
+    ap (λ b. b || list_any (nat_eq name) (map name_of xs)) (nat_eq_sym name (name_of x))
+    ∙ ap (λ b. nat_eq (name_of x) name || b) (named_among name_of xs name)
+
+-- once all were looked at
+pub all_fit : {A : Type 0} (Fits : ℕ → A → Type 0) (xs : List A) (n : ℕ) → length xs ≤ n
+    → AllFit Fits xs n → AllFit Fits xs (length xs)
+all_fit Fits xs n end before i x lt is = before i x (omega (arith, end, lt)) is

@@ -1,6 +1,6 @@
 -- The first place of the walk at which a rule is broken, by the kind of the place.
 use Rattle.std.proofs.Common.{◌≡◌, ◌⊎◌, ◌<◌, ◌≤◌, sym, subst, ℕ, arith, inl, inr}
-use Rattle.std.specs.Prelude.{List, length, slice_get, Some}
+use Rattle.std.specs.Prelude.{List, length}
 use Rattle.std.proofs.lemmas.Option.{slice_get_within}
 use Rattle.ix_legal.specs.declared.spot.Spot.{Spot}
 use Rattle.ix_legal.specs.declared.spot.Spot.TheVariants.{InstanceAt, PlacementAt, NetAt}

@@ -1,11 +1,11 @@
 -- One item of a list more.
 use Rattle.std.proofs.Common.{◌≡◌, ◌≤◌, ◌+◌, ◌∙◌, ap, sym, refl, subst, ℕ}
-use Rattle.std.proofs.Common.{List, [], ◌∷◌, length, take, map, get_or, Bool, true, false}
+use Rattle.std.proofs.Common.{◌++◌, List, [], ◌∷◌, length, take, map, get_or, Bool, true, false}
 use Rattle.std.proofs.Common.{◌||◌, arith, inl, inr}
 use Rattle.std.specs.Prelude.{not, nat_eq, slice_get, Some}
 use Rattle.std.specs.List.{list_any}
 use Rattle.std.proofs.lemmas.Bool.{cases_lt, cases_eq, eq-eqb, ne_eqb}
-use Rattle.std.proofs.lemmas.List.{map_more}
+use Rattle.std.proofs.lemmas.List.{map_push, take_more}
 use Rattle.std.proofs.lemmas.List.Folds.{list_any-append}
 use Rattle.std.proofs.lemmas.Option.{same_Some, slice_get_within, get_or_from_slice_get}
 use Rattle.ix_num.specs.Numbers.{NameNumber}
@@ -26,28 +26,36 @@ one_more_fits Fits xs n x is before fits i y lt at = elim (cases_lt i n) [
 ]
 
 -- an item more, whose name was met
-pub one_more_named : {A : Type 0} (name_of : A → NameNumber) (xs : List A) (n : ℕ) (x : A)
-    (before after : Marks) → slice_get xs n ≡ Some x → AreNamesOf name_of (take n xs) before
+pub named_push : {A : Type 0} (name_of : A → NameNumber) (xs : List A) (x : A)
+    (before after : Marks) → AreNamesOf name_of xs before
     → ((other : NameNumber)
     → has_mark after other ≡ (nat_eq other (name_of x) || has_mark before other))
-    → AreNamesOf name_of (take (n + 1) xs) after
-one_more_named name_of xs n x before after is were met other =
-    let at : get_or xs n x ≡ x = get_or_from_slice_get xs n x x is in
-    let more : list_any (nat_eq other) (map name_of (take (n + 1) xs))
-    ≡ (list_any (nat_eq other) (map name_of (take n xs)) || (nat_eq other (name_of x) || false))
-    = ap (list_any (nat_eq other)) (map_more name_of xs n x (slice_get_within xs n x is))
-    ∙ list_any-append (nat_eq other) (map name_of (take n xs)) _
-    ∙ ap (λ y. list_any (nat_eq other) (map name_of (take n xs))
-    || (nat_eq other (name_of y) || false)) at in
+    → AreNamesOf name_of (xs ++ x ∷ []) after
+named_push name_of xs x before after were met other =
     met other ∙ ap (λ b. nat_eq other (name_of x) || b) (were other)
-    ∙ turned (nat_eq other (name_of x)) (list_any (nat_eq other) (map name_of (take n xs)))
-    ∙ sym more
+    ∙ turned (nat_eq other (name_of x)) (list_any (nat_eq other) (map name_of xs))
+    ∙ sym (ap (list_any (nat_eq other)) (map_push name_of xs x)
+    ∙ list_any-append (nat_eq other) (map name_of xs) _)
   where
     turned : (a b : Bool) → (a || b) ≡ (b || (a || false))
     turned true true = refl
     turned true false = refl
     turned false true = refl
     turned false false = refl
+
+pub take_next : {A : Type 0} (xs : List A) (n : ℕ) (x : A) → slice_get xs n ≡ Some x
+    → take (n + 1) xs ≡ take n xs ++ x ∷ []
+take_next xs n x is = take_more xs n x (slice_get_within xs n x is)
+    ∙ ap (λ y. take n xs ++ y ∷ []) (get_or_from_slice_get xs n x x is)
+
+pub one_more_named : {A : Type 0} (name_of : A → NameNumber) (xs : List A) (n : ℕ) (x : A)
+    (before after : Marks) → slice_get xs n ≡ Some x → AreNamesOf name_of (take n xs) before
+    → ((other : NameNumber)
+    → has_mark after other ≡ (nat_eq other (name_of x) || has_mark before other))
+    → AreNamesOf name_of (take (n + 1) xs) after
+one_more_named name_of xs n x before after is were met =
+    subst (λ ys. AreNamesOf name_of ys after) (sym (take_next xs n x is))
+    (named_push name_of (take n xs) x before after were met)
 
 -- a name is new where no item before has it
 pub new_among : {A : Type 0} (name_of : A → NameNumber) (xs : List A) (marks : Marks)

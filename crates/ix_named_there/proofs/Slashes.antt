@@ -1,9 +1,8 @@
 -- A text is split at its last slash in one way.
-use Rattle.std.proofs.Common.{◌≡◌, ◌≢◌, ◌<◌, ◌≤◌, ◌+◌, ◌/◌, ◌%◌, ◌∙◌, ap, sym, refl, subst, ℕ, zero, suc}
-use Rattle.std.proofs.Common.{List, [], ◌∷◌, ◌++◌, length, take, drop, get_or, arith, Bool, true, false}
-use Rattle.std.proofs.Common.{Option, Some, None, MatchOption, Bor, append_assoc, length-append}
+use Rattle.std.proofs.Common.{◌≡◌, ◌≢◌, ◌<◌, ◌+◌, ◌/◌, ◌%◌, ◌∙◌, ap, sym, refl, subst, ℕ, zero, suc}
+use Rattle.std.proofs.Common.{List, [], ◌∷◌, ◌++◌, length, take, drop, get_or, arith, Bool, true}
+use Rattle.std.proofs.Common.{false, Option, Some, None, MatchOption, Bor, append_assoc, length-append}
 use Rattle.std.specs.Prelude.{nat_eq, codes, if◌then◌else◌}
-use Rattle.std.specs.List.{All}
 use Rattle.std.specs.Fmt.{decimal, digits, digits_onto, digit_glyph}
 use Rattle.std.proofs.lemmas.Bool.{lt-ltb}
 use Rattle.std.proofs.lemmas.List.{get_or_at, get_or_default, take-append-drop}
@@ -18,7 +17,11 @@ use Rattle.ix_named_there.specs.Keys.{HasNoSlash, slash}
 
 -- no digit is a slash
 digit_apart : (d : ℕ) → d < 10 → digit_glyph false d ≢ slash
-digit_apart d below is = omega (arith, below, sym (ap (λ b. if b then 48 + d else (87 + d)) (lt-ltb d 10 below)) ∙ is)
+digit_apart d below is = omega (
+  arith,
+  below,
+  sym (ap (λ b. if b then 48 + d else (87 + d)) (lt-ltb d 10 below)) ∙ is,
+)
 
 no_slash_onto : (k n : ℕ) (acc : Text) → HasNoSlash acc → HasNoSlash (digits_onto k 10 false n acc)
 no_slash_onto zero n acc none = none
@@ -73,7 +76,8 @@ pub slash_parts : (bs : List ℕ) (r : Option (Bor (List ℕ) × Bor (List ℕ))
     (λ x. SplitsAroundMatch (RFindsChar 47) bs x.0.now x.1.now)
     → MatchOption r ((front back : Text) → bs ≢ front ++ slash ∷ back)
     (λ x. (bs ≡ x.0.now ++ slash ∷ x.1.now) × HasNoSlash x.1.now)
-slash_parts bs None none = λ front back is. NoCharPasses-char 47 bs (length front) none (omega arith)
+slash_parts bs None none = λ front back is.
+    NoCharPasses-char 47 bs (length front) none (omega arith)
     (omega (arith, ap length is, length-append front (slash ∷ back)))
     (ap (λ t. get_or t (length front) 0) is ∙ get_or_at front slash back 0 (length front) refl)
 slash_parts bs (Some x) h = (

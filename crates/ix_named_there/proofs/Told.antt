@@ -1,5 +1,5 @@
 -- What is told of L1, from what is told of its parts.
-use Rattle.std.proofs.Common.{◌≡◌, ◌⊎◌, ◌<◌, ◌≤◌, refl, ℕ, arith, inl, inr}
+use Rattle.std.proofs.Common.{◌≡◌, ◌<◌, ◌≤◌, refl, ℕ, arith, inl, inr}
 use Rattle.std.specs.Prelude.{List, length, Option, Some, None}
 use Rattle.std.proofs.lemmas.Bool.{cases_lt}
 use Rattle.ix_message.specs.Shape.{Text}
@@ -9,9 +9,9 @@ use Rattle.ix_legal.specs.declared.spot.Spot.{Spot}
 use Rattle.ix_legal.specs.declared.spot.Spot.TheVariants.{InstanceAt, PlacementAt, NetAt}
 use Rattle.ix_legal.specs.declared.spot.Spot.TheVariants.{SegmentAt, PropertyAt, ElementAt}
 use Rattle.ix_legal.specs.Names.{IsNamed, NetIsNamed, KeyIsNamed}
-use Rattle.ix_legal.specs.Spots.{IsBefore, IsFirstBreak, Everywhere, Tells, AskedOf}
+use Rattle.ix_legal.specs.Spots.{IsBefore, IsFirstBreak, Everywhere}
 use Rattle.ix_walk.specs.Firsts.{AllFit, IsFirstMisfit, TellsMisfit}
-use Rattle.ix_walk.specs.Places.{kept_all, kept_before, breaks, first_instance, first_placement}
+use Rattle.ix_walk.specs.Places.{kept_all, kept_before, breaks}
 use Rattle.ix_walk.specs.Places.{first_net, first_segment, first_property}
 use Rattle.ix_named_there.specs.Ends.{TellsEnds, HaveEnds}
 use Rattle.ix_named_there.specs.Parts.{AllInstancesNamed, AllPlacementsNamed, AreNetsNamed}
@@ -64,20 +64,6 @@ module _ (rec : DeviceRec) (phys : Phys) where
 -- All of it.
 
 module _ (names : List Text) (rec : DeviceRec) (phys : Phys) where
-  pub instance_told : (i : ℕ) → IsFirstMisfit (InstanceNamedAt rec) phys.site_insts i
-      → IsFirstBreak (IsNamed names rec phys) (InstanceAt i)
-  instance_told i first = first_instance (IsNamed names rec phys) i
-      (kept_before (InstanceNamedAt rec) phys.site_insts i first)
-      (breaks (InstanceNamedAt rec) phys.site_insts i first)
-
-  pub placement_told : (i : ℕ) → AllInstancesNamed rec phys
-      → IsFirstMisfit (PlacementNamedAt rec) phys.placements i
-      → IsFirstBreak (IsNamed names rec phys) (PlacementAt i)
-  placement_told i instances first = first_placement (IsNamed names rec phys) i
-      (kept_all (InstanceNamedAt rec) phys.site_insts instances)
-      (kept_before (PlacementNamedAt rec) phys.placements i first)
-      (breaks (PlacementNamedAt rec) phys.placements i first)
-
   -- a break of a net or a segment
   pub net_told : (spot : Spot) → AllInstancesNamed rec phys → AllPlacementsNamed rec phys
       → IsFirstBreak (AreNetsNamed rec phys) spot → IsFirstBreak (IsNamed names rec phys) spot

@@ -1,15 +1,15 @@
 -- One item more.
-use Rattle.std.proofs.Common.{◌≡◌, ◌≢◌, ◌⊎◌, ◌<◌, ◌≤◌, ◌+◌, ◌^◌, ◌∙◌, ap, sym, refl, subst, ℕ, zero}
+use Rattle.std.proofs.Common.{◌≡◌, ◌⊎◌, ◌<◌, ◌≤◌, ◌+◌, ◌^◌, ◌∙◌, ap, sym, refl, subst, ℕ}
 use Rattle.std.proofs.Common.{List, [], ◌∷◌, ◌++◌, length, take, map, get_or, Bool, true, false}
-use Rattle.std.proofs.Common.{◌||◌, ◌&&◌, arith, suc, inl, inr}
-use Rattle.std.specs.Prelude.{not, nat_eq, slice_get, Some, None, if◌then◌else◌}
+use Rattle.std.proofs.Common.{◌||◌, arith, inl, inr}
+use Rattle.std.specs.Prelude.{not, nat_eq, slice_get, Some, if◌then◌else◌}
 use Rattle.std.specs.Bool.{Decides}
 use Rattle.std.specs.List.{list_any, filter, AllByRecursion}
 use Rattle.std.proofs.Math.Nat.{pow-le-pow_right}
-use Rattle.std.proofs.lemmas.Bool.{cases_Bool, true≢false, false≢true, eqb-true, eqb-false, not-true, ne_eqb}
+use Rattle.std.proofs.lemmas.Bool.{false≢true, ne_eqb}
 use Rattle.std.proofs.lemmas.List.{append-nil}
 use Rattle.std.proofs.lemmas.List.Elements.{filter_more, recursion_from_All}
-use Rattle.std.proofs.lemmas.List.Folds.{list_any_more, list_any-append}
+use Rattle.std.proofs.lemmas.List.Folds.{list_any_more}
 use Rattle.std.proofs.lemmas.Option.{slice_get_within, get_or_from_slice_get, slice_get-get_or}
 use Rattle.ix_num.specs.Numbers.{NameNumber}
 use Rattle.ix_rec.specs.declared.device.CellBelMapping.{CellBelMapping}
@@ -30,7 +30,8 @@ use Rattle.ix_named_there.specs.Parts.{AreCellTypes, name_of}
 -- fewer than 16 digits leave room for one more
 pub few_digits : (bits i : ℕ) → bits < 16 ^ i → i < 16 → bits < 2 ^ 60
 few_digits bits i below few =
-    let most : 16 ^ i ≤ 2 ^ 60 = pow-le-pow_right {n = 16} (omega arith) {i = i} {j = 15} (omega arith) in
+    let most : 16 ^ i ≤ 2 ^ 60
+    = pow-le-pow_right {n = 16} (omega arith) {i = i} {j = 15} (omega arith) in
     omega (arith, below, most)
 
 any_next : {A : Type 0} (test : A → Bool) (xs : List A) (n : ℕ) (x : A) → slice_get xs n ≡ Some x

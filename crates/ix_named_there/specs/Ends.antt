@@ -1,5 +1,5 @@
 -- Which segments have ends.
-use Rattle.std.specs.Prelude.{ℕ, Option, Some, None}
+use Rattle.std.specs.Prelude.{Option, Some, None}
 use Rattle.ix_rec.specs.declared.device.DeviceRec.{DeviceRec}
 use Rattle.ix_rec.specs.declared.phys.Phys.{Phys}
 use Rattle.ix_legal.specs.declared.spot.Spot.{Spot}

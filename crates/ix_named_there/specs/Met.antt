@@ -1,13 +1,12 @@
 -- What was met of nets.
-use Rattle.std.specs.Prelude.{◌≡◌, ◌||◌, ℕ, List, take, length, Bool, true, not, nat_eq}
+use Rattle.std.specs.Prelude.{◌≡◌, ◌||◌, ℕ, List, length, Bool, true, not, nat_eq}
 use Rattle.std.specs.List.{list_any}
 use Rattle.ix_num.specs.Numbers.{NameNumber}
 use Rattle.ix_rec.specs.declared.phys.PhysNet.{PhysNet}
 use Rattle.ix_rec.specs.declared.phys.NetType.{NetType}
 use Rattle.ix_rec.specs.declared.phys.NetType.TheVariants.{Signal, Gnd, Vcc}
 use Rattle.ix_legal.specs.Holders.{is_of_type, nets_of_type}
-use Rattle.ix_legal.specs.Names.{NetIsAlone}
-use Rattle.ix_walk.specs.Marks.{Marks, has_mark, AreNamesOf}
+use Rattle.ix_walk.specs.Marks.{has_mark, AreNamesOf}
 use Rattle.ix_named_there.specs.declared.nets.Met.{Met}
 use Rattle.ix_named_there.specs.Parts.{name_of}
 

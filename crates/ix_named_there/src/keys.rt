@@ -1,8 +1,6 @@
 //! The keys of LUT tables.
 
-ghost use Rattle.std.specs.Prelude.{◌≡◌, ◌≢◌, ◌∷◌, ◌++◌, ◌<◌, ◌^◌, List, ℕ, MatchOption, codes};
-ghost use Rattle.std.specs.Prelude.{IfSome};
-ghost use Rattle.std.specs.Prelude.{length};
+ghost use Rattle.std.specs.Prelude.{◌≡◌, ◌≢◌, ◌∷◌, ◌++◌, ◌<◌, ◌^◌, ℕ, MatchOption, IfSome};
 ghost use Rattle.std.specs.Bool.{Decides};
 ghost use Rattle.std.specs.Fmt.{decimal};
 ghost use Rattle.ix_message.specs.Shape.{Text};
@@ -23,8 +21,8 @@ fn at_last_slash(text: &str) -> Option<(&str, &str)>
     text.rsplit_once('/')
 }
 
-// Whether digits begin as those of a number that is written do: without a sign, and with a zero only
-// where nothing comes behind it.
+// Whether digits begin as those of a number that is written do: without a sign, and with a zero
+// only where nothing comes behind it.
 fn begin_plainly(digits: &[u8]) -> bool
     ensures { Decides result (BeginPlainly digits.now) }
 {

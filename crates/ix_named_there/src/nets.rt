@@ -1,13 +1,9 @@
 //! L1 of nets as such.
 
-ghost use Rattle.std.specs.Prelude.{◌≡◌, ◌<◌, ◌^◌, length, false, IfOk};
-ghost use Rattle.std.specs.Bool.{Decides};
-ghost use Rattle.ix_rec.specs.declared.phys.PhysNet.{PhysNet as NetSeen};
-ghost use Rattle.std.specs.Prelude.{ℕ, List, take, slice_get, Some};
-ghost use Rattle.ix_legal.specs.Names.{NetIsAlone, NetIsNamed};
-ghost use Rattle.ix_legal.specs.Holders.{nets_of_type};
+ghost use Rattle.std.specs.Prelude.{◌<◌, ◌^◌, length, IfOk};
+ghost use Rattle.ix_legal.specs.Names.{NetIsNamed};
 ghost use Rattle.ix_walk.specs.Firsts.{TellsMisfit};
-ghost use Rattle.ix_named_there.specs.Met.{AreMet, MeetsNext};
+ghost use Rattle.ix_named_there.specs.Met.{MeetsNext};
 ghost use Rattle.ix_named_there.specs.Parts.{AreInside, name_of};
 
 use ix_num::Memory;

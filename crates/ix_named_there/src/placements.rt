@@ -1,18 +1,17 @@
 //! L1 of placements.
 
-ghost use Rattle.std.specs.Prelude.{◌≡◌, ◌<◌, ◌^◌, ℕ, length, slice_get, nat_eq, Some, IsSome, IfOk};
+ghost use Rattle.std.specs.Prelude.{◌≡◌, ◌<◌, ◌^◌, length, Some, IfOk};
 ghost use Rattle.std.specs.Bool.{Decides};
-ghost use Rattle.std.specs.List.{list_any, AllByRecursion};
+ghost use Rattle.std.specs.List.{AllByRecursion};
 ghost use Rattle.ix_num.specs.Numbers.{NameNumber};
 ghost use Rattle.ix_legal.specs.Names.{PlacementIsNamed};
-ghost use Rattle.ix_legal.specs.Sites.{type_at, bel_pin_at};
+ghost use Rattle.ix_legal.specs.Sites.{type_at};
 ghost use Rattle.ix_walk.specs.Firsts.{TellsMisfit};
-ghost use Rattle.ix_walk.specs.Marks.{has_mark};
-ghost use Rattle.ix_named_there.specs.Parts.{AreCellTypes, AreInside, PlacementNamedAt, PinIsNamed};
-ghost use Rattle.ix_named_there.specs.Parts.{type_of_cell};
+ghost use Rattle.ix_named_there.specs.Parts.{AreCellTypes, AreInside, PlacementNamedAt};
+ghost use Rattle.ix_named_there.specs.Parts.{PinIsNamed, type_of_cell};
 
 use ix_device::Device;
-use ix_num::{Memory, NameId, SiteTypeId};
+use ix_num::{Memory, SiteTypeId};
 use ix_rec::{CellPlacement, Items, PinMapping};
 use ix_walk::{NameMarks, site_type_at};
 use std::alloc::Global;

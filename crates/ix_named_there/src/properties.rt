@@ -1,6 +1,6 @@
 //! L1 of properties.
 
-ghost use Rattle.std.specs.Prelude.{◌≡◌, ◌≢◌, ◌++◌, ◌<◌, ◌^◌, List, ℕ, MatchOption, length, take, map};
+ghost use Rattle.std.specs.Prelude.{◌≡◌, ◌≢◌, ◌++◌, ◌<◌, ◌^◌, ℕ, MatchOption, length, take, map};
 ghost use Rattle.std.specs.Prelude.{codes, IfOk};
 ghost use Rattle.std.specs.Bool.{Decides};
 ghost use Rattle.ix_message.specs.Shape.{Text};
@@ -39,7 +39,8 @@ fn is_named(
     requires sites { AreNamesOf site_of phys.now.site_insts sites.now }
     requires key { property.now.key < length names.now }
     requires value { property.now.value < length names.now }
-    ensures { (i : ℕ) → is_new (map (λ p. p.key) (take i phys.now.properties)) property.now.key ≡ new
+    ensures { (i : ℕ)
+        → is_new (map (λ p. p.key) (take i phys.now.properties)) property.now.key ≡ new
         → Decides result (KeyIsNamed names.now device.now phys.now i property.now) }
 {
     let Some(rest) = behind_table(names.name(property.key)) else {

@@ -1,7 +1,6 @@
 //! L1 as a whole.
 
-ghost use Rattle.std.specs.Prelude.{length, IfOk};
-ghost use Rattle.ix_message.specs.Shape.{Text};
+ghost use Rattle.std.specs.Prelude.{IfOk};
 ghost use Rattle.ix_rec.specs.declared.device.DeviceRec.{DeviceRec};
 ghost use Rattle.ix_rec.specs.declared.phys.Phys.{Phys as PhysSeen};
 ghost use Rattle.ix_legal.specs.Legal.{IsSound};
@@ -94,7 +93,7 @@ fn first_from_placements(
 
 /// The first place of the walk at which a netlist breaks L1; none exactly where it keeps it. Given
 /// is the first segment that has no ends, as a net and its segment, or none where all have ends. It
-/// takes time by what the netlist lists, segments left out, and four bytes a name.
+/// takes time by what the netlist lists, segments left out, and two bytes a name of the table.
 ///
 /// # Errors
 ///

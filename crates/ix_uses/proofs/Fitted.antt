@@ -17,11 +17,11 @@ use Rattle.ix_device.specs.Lookups.{site_type_number}
 use Rattle.ix_legal.specs.Sites.{type_at, pins_at}
 use Rattle.ix_legal.specs.Placements.{has_cell, is_on}
 use Rattle.ix_legal.specs.Placements.{IsPlaced}
-use Rattle.ix_legal.specs.Spots.{Everywhere}
+use Rattle.ix_legal.specs.Spots.{Everywhere, IsFirstBreak}
 use Rattle.ix_legal.specs.declared.spot.Spot.TheVariants.{InstanceAt, PlacementAt, NetAt}
 use Rattle.ix_legal.specs.declared.spot.Spot.TheVariants.{SegmentAt, PropertyAt, ElementAt}
-use Rattle.ix_walk.specs.Firsts.{AllFit}
-use Rattle.ix_walk.specs.Places.{kept_all}
+use Rattle.ix_walk.specs.Firsts.{AllFit, IsFirstMisfit}
+use Rattle.ix_walk.specs.Places.{kept_all, kept_before, breaks, first_placement}
 use Rattle.ix_walk.specs.Marks.{Marks, has_mark, AreNamesOf}
 use Rattle.ix_walk.specs.Listed.{one_more_fits, one_more_named, new_among, named_among}
 use Rattle.ix_walk.specs.Listed.{nat_eq_sym}
@@ -151,6 +151,14 @@ all_placed rec phys instances placements (NetAt n) = tt
 all_placed rec phys instances placements (SegmentAt n k) = tt
 all_placed rec phys instances placements (PropertyAt i) = tt
 all_placed rec phys instances placements (ElementAt i element) = tt
+
+pub placement_breaks : (rec : DeviceRec) (phys : Phys) (i : ℕ) → AllInstancesFit rec phys
+    → IsFirstMisfit (PlacementFitsAt rec phys) phys.placements i
+    → IsFirstBreak (IsPlaced rec phys) (PlacementAt i)
+placement_breaks rec phys i instances first = first_placement (IsPlaced rec phys) i
+    (kept_all (InstanceFitsAt rec phys.site_insts) phys.site_insts instances)
+    (kept_before (PlacementFitsAt rec phys) phys.placements i first)
+    (breaks (PlacementFitsAt rec phys) phys.placements i first)
 
 -- the sites and the BELs that were noted are those in use
 pub uses_are : (phys : Phys) (sites : Marks) (bels : List Key)

@@ -1,6 +1,6 @@
 //! L2 of site instances.
 
-ghost use Rattle.std.specs.Prelude.{◌≡◌, ◌<◌, ◌^◌, length, slice_get, Some, None, false};
+ghost use Rattle.std.specs.Prelude.{◌≡◌, ◌<◌, ◌^◌, length, Some, None, false};
 ghost use Rattle.std.specs.Bool.{Decides};
 ghost use Rattle.ix_num.specs.Numbers.{NameNumber};
 ghost use Rattle.ix_device.specs.Lookups.{site_type_number};

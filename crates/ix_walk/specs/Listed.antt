@@ -1,6 +1,6 @@
 -- One item of a list more.
 use Rattle.std.proofs.Common.{◌≡◌, ◌≤◌, ◌+◌, ◌∙◌, ap, sym, refl, subst, ℕ}
-use Rattle.std.proofs.Common.{◌++◌, List, [], ◌∷◌, length, take, map, get_or, Bool, true, false}
+use Rattle.std.proofs.Common.{◌++◌, List, [], ◌∷◌, length, take, map, Bool, true, false}
 use Rattle.std.proofs.Common.{◌||◌, arith, inl, inr}
 use Rattle.std.specs.Prelude.{not, nat_eq, slice_get, Some}
 use Rattle.std.specs.List.{list_any}

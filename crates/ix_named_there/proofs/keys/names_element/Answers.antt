@@ -1,4 +1,4 @@
-use Rattle.std.proofs.Common.{◌∙◌, sym, arith, Some}
+use Rattle.std.proofs.Common.{◌∙◌, sym}
 use Rattle.std.proofs.lemmas.Bool.{false≢true, ltb-true, lt-ltb}
 use Rattle.ix_named_there.proofs.Named.{site_is_name, site_is_marked, site_has_type, same_number}
 use Rattle.ix_named_there.proofs.Named.{no_number, is_element}
@@ -37,7 +37,8 @@ returns-in-Some-number_of c = (
       c.in-Some-find.site c.in-Some-find.ensures.text c.in-Some-find.ensures.differ
       c.in-Some-site_type_at.t c.elements-count.result (sym c.in-Some-site_type_at.ensures.ty)
       c.elements-count.ensures c.elements-count.type_inv
-      c.args.sites.now c.in-Some-number_of.element c.requires (sym c.has.ensures ∙ c.if-not-has.false)
+      c.args.sites.now c.in-Some-number_of.element c.requires
+      (sym c.has.ensures ∙ c.if-not-has.false)
       c.in-Some-number_of.ensures.number (ltb-true _ _ below),
   λ element. lt-ltb _ _ (same_number c.args.names.now c.args.device.now
       c.args.phys.now c.args.text.now c.in-Some.site.now c.in-Some.digits.now c.in-Some.ensures

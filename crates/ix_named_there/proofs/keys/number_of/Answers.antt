@@ -14,7 +14,8 @@ returns-then-not-begin_plainly-clause-number c n small is =
     )))))
 
 pub returns-in-Ok-clause-number : goal.returns-in-Ok-clause-number
-returns-in-Ok-clause-number c = written_so c.args.digits.now c.parse.result c.in-Ok.number c.in-Ok.is
+returns-in-Ok-clause-number c = written_so c.args.digits.now c.parse.result c.in-Ok.number
+    c.in-Ok.is
     c.parse.ensures.value.0
     (subst BeginPlainly c.as_bytes.ensures.value
     (c.begin_plainly.ensures.0 c.if-not-begin_plainly.false))

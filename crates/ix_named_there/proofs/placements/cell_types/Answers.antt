@@ -1,5 +1,4 @@
-use Rattle.std.proofs.Common.{◌≡◌, ◌∙◌, ◌+◌, sym, subst, take, arith}
-use Rattle.ix_walk.specs.Marks.{Marks}
+use Rattle.std.proofs.Common.{◌+◌, sym, subst, take, arith}
 use Rattle.ix_named_there.specs.Parts.{AreCellTypes}
 use Rattle.ix_named_there.proofs.Turns.{one_more_type, type_past}
 use Rattle.ix_named_there.proofs.placements.cell_types.Goals as goal

@@ -1,4 +1,4 @@
-use Rattle.std.proofs.Common.{◌∙◌, sym, take}
+use Rattle.std.proofs.Common.{◌∙◌, take}
 use Rattle.ix_legal.specs.Names.{KeyIsNamed}
 use Rattle.ix_walk.specs.Listed.{one_more_fits, one_more_named, new_among}
 use Rattle.ix_named_there.specs.Parts.{key_of}

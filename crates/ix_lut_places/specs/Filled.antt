@@ -1,5 +1,5 @@
 -- Rows that have the elements of the first so many entries.
-use Rattle.std.specs.Prelude.{◌≡◌, ℕ, List, [], length, map, take, slice_get, Option, Some}
+use Rattle.std.specs.Prelude.{◌≡◌, ℕ, List, [], length, map, take, slice_get, Some}
 use Rattle.std.specs.Prelude.{option_map, unwrap_or}
 use Rattle.ix_num.specs.Numbers.{SiteTypeNumber}
 use Rattle.ix_rec.specs.declared.device.DeviceRec.{DeviceRec}

@@ -1,5 +1,5 @@
 -- LUT elements and the BELs in them, and tables by which they are found.
-use Rattle.std.specs.Prelude.{◌≡◌, ℕ, List, length, map, slice_get, Option, Some}
+use Rattle.std.specs.Prelude.{◌≡◌, List, length, map, slice_get, Option, Some}
 use Rattle.std.specs.Prelude.{option_and_then}
 use Rattle.ix_num.specs.Numbers.{SiteTypeNumber, BelNumber}
 use Rattle.ix_rec.specs.declared.device.DeviceRec.{DeviceRec}

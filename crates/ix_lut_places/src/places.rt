@@ -64,7 +64,10 @@ impl LutPlaces {
             ≡ in_type (element_in device.now element) device.now t }
     {
         let entries = &device.rec().lut_definitions.lut_elements;
-        match self.elements[t.get() as usize].as_slice().get(element as usize) {
+        match self.elements[t.get() as usize]
+            .as_slice()
+            .get(element as usize)
+        {
             Some(place) => Some(entries.at(place.entry as usize).luts.at(place.lut as usize)),
             None => None,
         }

@@ -9,7 +9,10 @@ use Rattle.ix_rec.specs.declared.device.DeviceRec.{DeviceRec}
 use Rattle.ix_rec.specs.declared.device.LutElement.{LutElement}
 use Rattle.ix_rec.specs.declared.device.SiteType.{SiteType}
 use Rattle.ix_rec.specs.declared.device.SiteTypeLutElements.{SiteTypeLutElements}
+use Rattle.ix_device_rules.specs.Rules.{first_broken}
 use Rattle.ix_device.specs.Lookups.{in_type}
+use Rattle.ix_device.specs.Premises.{BelsFit}
+use Rattle.ix_device.proofs.ElementsFit.{element_bels_fit}
 use Rattle.ix_device.specs.Elements.{elements_of}
 use Rattle.ix_device.proofs.NumberedLemmas.{there_is}
 use Rattle.ix_lut_places.specs.declared.filling.ElementPlace.{ElementPlace}
@@ -113,3 +116,12 @@ module _ (rec : DeviceRec) (p : ElementPlace) (element : Option LutElement)
 
     pub lut_found : (x : LutElement) → slice_get e.luts p.lut ≡ Some x → Some x ≡ element
     lut_found x at = sym at ∙ there ∙ sym s.element_is
+
+-- the BELs of an element of a device that breaks no rule
+pub element_fits : (rec : DeviceRec) → first_broken rec ≡ None → (t : ℕ)
+    → t < length rec.site_type_list → (element : ℕ) (e : LutElement)
+    → Some e ≡ in_type (element_in rec element) rec t → BelsFit e
+element_fits rec valid t within element e is =
+    let ty = there_is rec.site_type_list t within in
+    element_bels_fit rec valid t ty.0 ty.1 element e
+    (sym (is ∙ ap (option_and_then (element_in rec element)) ty.1))

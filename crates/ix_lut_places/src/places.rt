@@ -2,6 +2,7 @@
 
 ghost use Rattle.std.specs.Prelude.{◌≡◌, ◌<◌, length, slice_get, option_map, IfOk, IfSome};
 ghost use Rattle.ix_device.specs.Lookups.{in_type};
+ghost use Rattle.ix_device.specs.Premises.{BelFits, BelsFit};
 ghost use Rattle.ix_legal.specs.Sites.{lut_cell_of};
 ghost use Rattle.ix_lut_tables.specs.Tables.{HasFewInputs};
 ghost use Rattle.ix_lut_places.specs.Places.{ArePlaces, element_in, lut_bel_in};
@@ -51,7 +52,8 @@ impl LutPlaces {
         }
     }
 
-    /// The element of this number of a site type; none exactly where the type has none.
+    /// The element of this number of a site type; none exactly where the type has none. Its BELs
+    /// have at most 6 inputs, and read bits that are among 64.
     pub fn element<'a>(
         &self,
         device: &'a Device,
@@ -60,8 +62,9 @@ impl LutPlaces {
     ) -> Option<&'a LutElement>
         requires places { ArePlaces device.now self.now }
         requires ty { t < length device.now.site_type_list }
-        ensures { option_map (λ e. e.now) result
+        ensures element { option_map (λ e. e.now) result
             ≡ in_type (element_in device.now element) device.now t }
+        ensures fits { IfSome result (λ e. BelsFit e.now) }
     {
         let entries = &device.rec().lut_definitions.lut_elements;
         match self.elements[t.get() as usize]
@@ -73,12 +76,15 @@ impl LutPlaces {
         }
     }
 
-    /// A BEL of a site type as its element lists it; none exactly where the BEL is in none.
+    /// A BEL of a site type as its element lists it; none exactly where the BEL is in none. It has
+    /// at most 6 inputs, and reads bits that are among 64.
     pub fn bel<'a>(&self, device: &'a Device, t: SiteTypeId, bel: BelId) -> Option<&'a LutBel>
         requires places { ArePlaces device.now self.now }
         requires ty { t < length device.now.site_type_list }
         requires bel { IfSome (slice_get device.now.site_type_list t) (λ ty. bel < length ty.bels) }
-        ensures { option_map (λ b. b.now) result ≡ in_type (lut_bel_in device.now bel) device.now t }
+        ensures bel { option_map (λ b. b.now) result
+            ≡ in_type (lut_bel_in device.now bel) device.now t }
+        ensures fits { IfSome result (λ b. BelFits b.now) }
     {
         let (element, place) = device.element_of(t, bel)?;
         let element = self.element(device, t, element)?;

@@ -25,14 +25,16 @@ pub record IsBel (rec : DeviceRec) (t : SiteTypeNumber) (bel : BelNumber) : Type
   pub type_inside : t < length rec.site_type_list
   pub bel_inside : IfSome (slice_get rec.site_type_list t) (λ ty. bel < length ty.bels)
 
+-- a cell pin was put on this BEL pin
+abbrev pub is_under : (turn : ℕ) → List Mark → (cell_pin : NameNumber) → Option BelPinNumber → Bool
+is_under turn marks cell_pin (Some pin) = has_pin (pin_under turn marks cell_pin) pin
+is_under turn marks cell_pin None = false
+
 -- an entry of the pin map of a cell on this BEL is one of those that were put
 abbrev pub is_put : DeviceRec → SiteTypeNumber → BelNumber → (turn : ℕ) → List Mark → PinMapping
     → Bool
-is_put rec t bel turn marks entry = is_one (in_type (bel_pin_in bel entry.bel_pin) rec t)
-  where
-    is_one : Option BelPinNumber → Bool
-    is_one (Some pin) = has_pin (pin_under turn marks entry.cell_pin) pin
-    is_one None = false
+is_put rec t bel turn marks entry =
+    is_under turn marks entry.cell_pin (in_type (bel_pin_in bel entry.bel_pin) rec t)
 
 -- an entry is of an input of this LUT; of a plain cell none is
 abbrev pub is_input : Option LutCell → PinMapping → Bool

@@ -7,7 +7,7 @@ ghost use Rattle.ix_lut.specs.Tables.{AllDiffer};
 ghost use Rattle.ix_legal.specs.Placements.{MapsInputs, pins_for};
 
 use ix_num::NameId;
-use ix_rec::{CellPlacement, LutBel, LutCell};
+use ix_rec::{CellPlacement, Items, LutBel, LutCell};
 use std::marker::Model;
 
 /// The places of a LUT's inputs among its BEL's, at most six. In contracts it is the list of them.
@@ -83,15 +83,12 @@ fn pin_for(placement: &CellPlacement, cell_pin: NameId) -> Option<NameId>
     found
 }
 
-// The place of a pin among a BEL's inputs; none exactly where it is none of them.
-fn place_of(bel: &LutBel, pin: NameId) -> Option<u32>
-    requires { length bel.now.input_pins ≤ 6 }
-    ensures { result ≡ position (nat_eq pin) bel.now.input_pins }
+// The place of a name in a list; none exactly where it isn't there.
+fn place_in(names: &Items<NameId>, name: NameId) -> Option<usize>
+    ensures place { result ≡ position (nat_eq name) names.now }
+    ensures inside { IfSome result (λ place. place < length names.now) }
 {
-    match bel.input_pins.as_slice().iter().position(|p| pin == *p) {
-        Some(place) => Some(place as u32),
-        None => None,
-    }
+    names.as_slice().iter().position(|n| name == *n)
 }
 
 /// Where a placed LUT's pin map has its inputs among those of its BEL, in the order of the LUT's
@@ -108,7 +105,7 @@ pub fn input_places(lut: &LutCell, bel: &LutBel, placement: &CellPlacement) -> O
     let mut places = InputPlaces::new();
     for i in 0..lut.input_pins.len() {
         let pin = pin_for(placement, *lut.input_pins.at(i))?;
-        let place = place_of(bel, pin)?;
+        let place = place_in(&bel.input_pins, pin)? as u32;
         if places.has(place) {
             return None;
         }

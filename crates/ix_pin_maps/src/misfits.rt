@@ -12,40 +12,41 @@ ghost use Rattle.ix_lut_places.specs.Places.{ArePlaces};
 ghost use Rattle.ix_pin_maps.specs.Marks.{AreOlder};
 ghost use Rattle.ix_pin_maps.specs.Entries.{bel_place, IsBel, InputsFit};
 
-use crate::entries::{CellOnBel, all_fit};
+use crate::entries::{CellOnBel, TypedBel, all_fit};
 use crate::inputs::input_places;
 use crate::marks::{Mark, no_marks, put_pins};
 use ix_device::Device;
 use ix_legal::Spot;
 use ix_lut_places::LutPlaces;
-use ix_num::{BelId, Memory, SiteTypeId};
+use ix_num::Memory;
 use ix_rec::{CellPlacement, LutCell, Phys};
 use ix_strings::Names;
 use std::alloc::Global;
 
 // The site type of a placement's site, and the BEL in it; none exactly where it isn't there.
-fn bel_of(device: &Device, placement: &CellPlacement) -> Option<(SiteTypeId, BelId)>
-    ensures place { result ≡ bel_place device.now placement.now.site placement.now.bel }
-    ensures inside { IfSome result (λ p. IsBel device.now p.0 p.1) }
+fn bel_of(device: &Device, placement: &CellPlacement) -> Option<TypedBel>
+    ensures place { option_map (λ p. (p.ty, p.bel)) result
+        ≡ bel_place device.now placement.now.site placement.now.bel }
+    ensures inside { IfSome result (λ p. IsBel device.now p.ty p.bel) }
 {
     let site = device.site(placement.site)?;
     let ty = device.type_of(site);
     let bel = device.bel(ty, placement.bel)?;
-    Some((ty, bel))
+    Some(TypedBel { ty, bel })
 }
 
 // Whether each input of a LUT is mapped once, and to an input of its own of the BEL.
 fn inputs_fit(
     device: &Device,
     places: &LutPlaces,
-    ty: SiteTypeId,
-    bel: BelId,
+    at: TypedBel,
     lut: Option<&LutCell>,
     placement: &CellPlacement,
 ) -> bool
     requires places { ArePlaces device.now places.now }
-    requires place { bel_place device.now placement.now.site placement.now.bel ≡ Some (ty, bel) }
-    requires bel { IsBel device.now ty bel }
+    requires place { bel_place device.now placement.now.site placement.now.bel
+        ≡ Some (at.ty, at.bel) }
+    requires bel { IsBel device.now at.ty at.bel }
     requires lut { option_map (λ l. l.now) lut ≡ lut_cell_of device.now placement.now.ty }
     requires few { IfSome lut (λ l. HasFewInputs l.now) }
     requires placed { IsSome (pins_at device.now placement.now.ty placement.now.site
@@ -55,11 +56,47 @@ fn inputs_fit(
 {
     match lut {
         None => true,
-        Some(lut) => match places.bel(device, ty, bel) {
+        Some(lut) => match places.bel(device, at.ty, at.bel) {
             None => false,
             Some(bel) => input_places(lut, bel, placement).is_some(),
         },
     }
+}
+
+// Whether the pin map of a placement on this BEL fits.
+fn fits_on(
+    device: &Device,
+    places: &LutPlaces,
+    marks: &mut [Mark],
+    turn: u32,
+    at: TypedBel,
+    placement: &CellPlacement,
+) -> bool
+    requires places { ArePlaces device.now places.now }
+    requires place { bel_place device.now placement.now.site placement.now.bel
+        ≡ Some (at.ty, at.bel) }
+    requires bel { IsBel device.now at.ty at.bel }
+    requires placed { IsSome (pins_at device.now placement.now.ty placement.now.site
+        placement.now.bel) }
+    requires named { All (λ e. e.cell_pin < length marks.old) placement.now.pin_map }
+    requires older { AreOlder turn marks.old }
+    ensures fits { IsTrue result ↔ PinMapFits device.now placement.now }
+    ensures older { AreOlder (turn + 1) marks.new }
+{
+    // The BEL admits the cell that is placed on it.
+    let Some(pins) = device.pins_of(placement.ty, at.ty, at.bel) else {
+        return false;
+    };
+    put_pins(marks, turn, &pins);
+    let lut = places.cell(device, placement.ty);
+    let on = CellOnBel {
+        device,
+        ty: at.ty,
+        bel: at.bel,
+        marks,
+        turn,
+    };
+    all_fit(&on, lut, placement) && inputs_fit(device, places, at, lut, placement)
 }
 
 // Whether the pin map of a placement fits.
@@ -78,23 +115,11 @@ fn fits(
     ensures fits { IsTrue result ↔ PinMapFits device.now placement.now }
     ensures older { AreOlder (turn + 1) marks.new }
 {
-    // The cell is placed, so it has a BEL, which admits it.
-    let Some((ty, bel)) = bel_of(device, placement) else {
-        return false;
-    };
-    let Some(pins) = device.pins_of(placement.ty, ty, bel) else {
-        return false;
-    };
-    put_pins(marks, turn, &pins);
-    let lut = places.cell(device, placement.ty);
-    let on = CellOnBel {
-        device,
-        ty,
-        bel,
-        marks,
-        turn,
-    };
-    all_fit(&on, lut, placement) && inputs_fit(device, places, ty, bel, lut, placement)
+    match bel_of(device, placement) {
+        Some(at) => fits_on(device, places, marks, turn, at, placement),
+        // The cell is placed, so there is a BEL.
+        None => false,
+    }
 }
 
 /// The first placement whose pin map doesn't fit the device: an entry isn't of the cell's own BEL,

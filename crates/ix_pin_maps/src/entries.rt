@@ -79,7 +79,8 @@ pub(crate) fn all_fit(on: &CellOnBel<'_>, lut: Option<&LutCell>, placement: &Cel
     requires bel { IsBel on.now.device.now on.now.ty on.now.bel }
     requires named { All (λ e. e.cell_pin < length on.now.marks.now) placement.now.pin_map }
     ensures { result ≡ list_all (entry_fits_seen on.now.device.now on.now.ty on.now.bel on.now.turn
-        on.now.marks.now (option_map (λ l. l.now) lut.entry) placement.now.bel) placement.now.pin_map }
+        on.now.marks.now (option_map (λ l. l.now) lut.entry) placement.now.bel)
+        placement.now.pin_map }
 {
     for i in 0..placement.pin_map.len() {
         if !entry_fits(on, lut, placement.bel, placement.pin_map.at(i)) {

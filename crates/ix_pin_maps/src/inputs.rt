@@ -92,8 +92,11 @@ fn place_in(names: &Items<NameId>, name: NameId) -> Option<usize>
 }
 
 /// Where a placed LUT's pin map has its inputs among those of its BEL, in the order of the LUT's
-/// inputs; none exactly where not each input is mapped once, to an input of its own of the BEL. It
-/// takes a walk over the pin map for each input.
+/// inputs; none exactly where not each input is mapped once, to an input of its own of the BEL.
+/// There is one such list at most. It takes a walk over the pin map for each input.
+///
+/// A LUT type has at most 6 inputs. So has a LUT BEL of a device, and where it admits a LUT the
+/// names of its inputs differ.
 pub fn input_places(lut: &LutCell, bel: &LutBel, placement: &CellPlacement) -> Option<InputPlaces>
     requires few { length lut.now.input_pins ≤ 6 }
     requires few_of_bel { length bel.now.input_pins ≤ 6 }

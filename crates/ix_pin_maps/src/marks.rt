@@ -1,4 +1,5 @@
-//! The device's pin map of a placement, by the names of cell pins.
+//! The device's pin map for the cell of a placement, by the names of cell pins. Each placement is a
+//! turn.
 
 ghost use Rattle.std.specs.Prelude.{◌≡◌, ◌<◌, ◌+◌, ℕ, None, length, nat_eq, IfOk};
 ghost use Rattle.ix_first.specs.First.{or_later};
@@ -13,7 +14,9 @@ use std::alloc::Global;
 /// so nothing is cleared between turns.
 #[derive(Clone, Copy)]
 pub(crate) struct Mark {
+    /// The turn.
     pub turn: u32,
+    /// The BEL pin.
     pub pin: BelPinId,
 }
 

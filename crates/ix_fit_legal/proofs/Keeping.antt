@@ -5,6 +5,7 @@ use Rattle.std.proofs.Common.{List, [], ◌∷◌, map, take, length, slice_get,
 use Rattle.std.proofs.Common.{option_map, option_and_then, is_some, IfSome, cond}
 use Rattle.std.specs.List.{AllByRecursion, list_any}
 use Rattle.std.proofs.lemmas.Bool.{eqb-true, eq-eqb}
+use Rattle.std.proofs.lemmas.List.{length-append, length-map}
 use Rattle.std.proofs.lemmas.Map.Keys.{any_passes_from_place}
 use Rattle.std.proofs.lemmas.Option.{none-some, same_Some, slice_get-map, slice_get_within}
 use Rattle.std.proofs.lemmas.Option.{slice_get_read}
@@ -30,8 +31,9 @@ use Rattle.ix_first_fit.specs.Laws.{IsOnPlace, HasOwnPlaces}
 use Rattle.ix_first_fit.specs.Answers.{IsFitted}
 use Rattle.ix_legal.specs.declared.level.Level.TheVariants.{Routed}
 use Rattle.ix_legal.specs.Sites.{bel_at, bel_pin_at, lut_cell_of}
-use Rattle.ix_legal.specs.Spots.{AskedOf, Everywhere, InstanceAt, PlacementAt, NetAt, SegmentAt}
-use Rattle.ix_legal.specs.Spots.{PropertyAt, ElementAt, OfNets, OfSegments}
+use Rattle.ix_legal.specs.declared.spot.Spot.TheVariants.{InstanceAt, PlacementAt, NetAt}
+use Rattle.ix_legal.specs.declared.spot.Spot.TheVariants.{SegmentAt, PropertyAt, ElementAt}
+use Rattle.ix_legal.specs.Spots.{AskedOf, Everywhere, OfNets, OfSegments}
 use Rattle.ix_legal.specs.Names.{IsNamed, InstanceIsNamed, PlacementIsNamed, NetIsNamed}
 use Rattle.ix_legal.specs.Names.{SegmentHasEnds, KeyIsNamed}
 use Rattle.ix_legal.specs.Placements.{IsPlaced, InstanceFits, PlacementFits, MapsPins, PinMapFits}
@@ -95,23 +97,24 @@ new_there f xs i n fails = ap not (any_map f n (take i xs)
     ∙ none_before (λ x. nat_eq n (f x)) xs i
     (λ j x lt at h. fails j x lt at (sym (eqb-true n (f x) h))))
 
+one_more : (sites : List ℕ) (site : ℕ) (b : Bool)
+    → length (cond b sites (sites ++ site ∷ [])) ≤ length sites + 1
+one_more sites site true = omega arith
+one_more sites site false =
+    let more : length (sites ++ site ∷ []) ≡ length sites + 1 = length-append sites (site ∷ []) in
+    omega (arith, more)
+
 -- no more sites are used than there are places
 few_used : (sites : List ℕ) (places : List Spot)
     → length (used_after sites places) ≤ length sites + length places
 unfolding used_after
 few_used sites [] = omega arith
-few_used sites (p ∷ ps) = by (list_any (λ t. nat_eq p.site t) sites) refl
-  where
-    by : (b : Bool) → list_any (λ t. nat_eq p.site t) sites ≡ b
-        → length (used_after (with_site sites p.site) ps) ≤ length sites + suc (length ps)
-    by true h = let rest : length (used_after sites ps) ≤ length sites + length ps = few_used sites ps in
-        subst (λ (xs : List ℕ). length (used_after xs ps) ≤ length sites + suc (length ps))
-        (sym (ap (λ b. cond b sites (sites ++ p.site ∷ [])) h)) (omega (arith, rest))
-    by false h = let rest : length (used_after (sites ++ p.site ∷ []) ps)
-        ≤ length (sites ++ p.site ∷ []) + length ps = few_used (sites ++ p.site ∷ []) ps in
-        let more : length (sites ++ p.site ∷ []) ≡ length sites + 1 = length-append sites (p.site ∷ []) in
-        subst (λ (xs : List ℕ). length (used_after xs ps) ≤ length sites + suc (length ps))
-        (sym (ap (λ b. cond b sites (sites ++ p.site ∷ [])) h)) (omega (arith, rest, more))
+few_used sites (p ∷ ps) =
+    let rest : length (used_after (with_site sites p.site) ps)
+    ≤ length (with_site sites p.site) + length ps = few_used (with_site sites p.site) ps in
+    let more : length (with_site sites p.site) ≤ length sites + 1 =
+    one_more sites p.site (list_any (λ t. nat_eq p.site t) sites) in
+    omega (arith, rest, more)
 
 -- The same site type of a site, by the two ways in which it is told.
 fit_type : (rec : DeviceRec) (site : ℕ) (t : SiteType) → fit.type_at rec site ≡ Some t
@@ -386,9 +389,9 @@ module _ (names : List Text) (rec : DeviceRec) (cells : List FlatCell) (phys : P
       let places : length own.places ≡ length cells = own.places_count in
       let told : length (map instance_told phys.site_insts) ≡ length (map (instance_wanted rec) (used_sites own.places)) = ap length own.instances in
       let instances : length phys.site_insts ≡ length (used_sites own.places) =
-      sym (length-map instance_told phys.site_insts)
-      ∙ (told ∙ length-map (instance_wanted rec) (used_sites own.places)) in
-      let used : length (used_sites own.places) ≤ length own.places = few_used [] own.places in
+      sym (length-map phys.site_insts instance_told)
+      ∙ (told ∙ length-map (used_sites own.places) (instance_wanted rec)) in
+      let used : length (used_sites own.places) ≤ 0 + length own.places = few_used [] own.places in
       let nets : length phys.nets ≡ 0 = ap length is.netlist.nets in
       let properties : length phys.properties ≡ 0 = ap length is.netlist.properties in
       record {

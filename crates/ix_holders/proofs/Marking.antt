@@ -35,7 +35,7 @@ same_suc a b e = omega (arith, e)
 
 module _ (rec : DeviceRec) (seen : EndsSeen)
     (apart : (one other : Res) (number : ResNumber) → IsNumbered rec seen one number
-        → IsNumbered rec seen other number → one ≡ other) where
+    → IsNumbered rec seen other number → one ≡ other) where
   -- one resource has one number
   pub one_number : (one other : Res) (i j : ResNumber) → IsNumbered rec seen one i
       → IsNumbered rec seen other j → one ≡ other → i ≡ j

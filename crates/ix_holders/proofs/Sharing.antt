@@ -42,7 +42,7 @@ is_first has before r n first is more less up = (
 
 module _ (rec : DeviceRec) (seen : EndsSeen) (phys : Phys)
     (apart : (one other : Res) (number : ResNumber) → IsNumbered rec seen one number
-        → IsNumbered rec seen other number → one ≡ other) (n : NetNumber) (net : PhysNet) (k : SegmentNumber) (s : Segment) (pair : Pair)
+    → IsNumbered rec seen other number → one ≡ other) (n : NetNumber) (net : PhysNet) (k : SegmentNumber) (s : Segment) (pair : Pair)
     (here : IsHere rec seen phys n net k s pair) where
   abbrev a : Res
   a = here.numbers.from

@@ -35,7 +35,13 @@ fn mark(marks: &mut [u32], number: u32, net: u32) -> u32
 }
 
 // Whether a net of this type may have the resource of this number, by its constant.
-fn is_own_constant(device: &Device, graph: &NodeGraph, ends: &Ends, number: u32, ty: NetType) -> bool
+fn is_own_constant(
+    device: &Device,
+    graph: &NodeGraph,
+    ends: &Ends,
+    number: u32,
+    ty: NetType,
+) -> bool
     requires graph { KnowsConstants device.now graph.now ends.now }
     requires ends { (phys : PhysSeen) × AreEnds device.now phys ends.now }
     ensures { (r : Res) → IsNumbered device.now ends.now r number

@@ -50,6 +50,7 @@ loop-k-preserved c =
           c.args.phys.now c.requires.ends c.args.net c.at-segments.result.now c.loop-k.k
           c.segment_at.result.now pair here w.in_default.not-Pip c.loop-k.marks c.loop-k.invariant)
     ])
+
 pub returns : goal.returns
 returns c =
     let le = c.loop-k-test.false in

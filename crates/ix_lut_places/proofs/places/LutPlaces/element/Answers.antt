@@ -44,9 +44,9 @@ pub returns-in-Some-clause-fits : goal.returns-in-Some-clause-fits
 returns-in-Some-clause-fits c =
     let rec = c.args.device.now in
     let s = read_item rec c.args.self.now.elements.items c.requires.places.elements c.args.t
-        c.requires.ty c.get.result c.get.ensures c.index.result.now c.index.ensures
-        c.as_slice.result.now c.as_slice.ensures c.args.element c.in-Some.place.now
-        c.in-Some.ensures.lookup.0 c.in-Some.ensures.lookup.1 in
+    c.requires.ty c.get.result c.get.ensures c.index.result.now c.index.ensures
+    c.as_slice.result.now c.as_slice.ensures c.args.element c.in-Some.place.now
+    c.in-Some.ensures.lookup.0 c.in-Some.ensures.lookup.1 in
     element_fits rec c.rec.ensures.valid c.args.t c.requires.ty c.args.element
     c.at-in-Some.result.now
     (lut_found rec c.in-Some.place.now _ s c.at.result.now

@@ -1,7 +1,8 @@
 -- A text is split at its last slash in one way.
 use Rattle.std.proofs.Common.{◌≡◌, ◌≢◌, ◌<◌, ◌+◌, ◌/◌, ◌%◌, ◌∙◌, ap, sym, refl, subst, ℕ, zero, suc}
 use Rattle.std.proofs.Common.{List, [], ◌∷◌, ◌++◌, length, take, drop, get_or, arith, Bool, true}
-use Rattle.std.proofs.Common.{false, Option, Some, None, MatchOption, Bor, append_assoc, length-append}
+use Rattle.std.proofs.Common.{false, Option, Some, None}
+use Rattle.std.proofs.Common.{MatchOption, Bor, append_assoc, length-append}
 use Rattle.std.specs.Prelude.{nat_eq, codes, if◌then◌else◌}
 use Rattle.std.specs.Fmt.{decimal, digits, digits_onto, digit_glyph}
 use Rattle.std.proofs.lemmas.Bool.{lt-ltb}

@@ -1,0 +1,8 @@
+//! The tables of LUT elements that a physical netlist has as properties, found by site and element.
+#![tactic(auto)]
+
+mod places;
+mod tables;
+
+pub use places::{PlacesByName, instances_by_name};
+pub use tables::TableKeys;

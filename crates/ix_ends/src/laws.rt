@@ -1,1 +1,13 @@
 //! Laws on the ends of segments, over the definitions alone.
+
+ghost use Rattle.ix_ends.specs.Laws.{EndsAreThere, GraphHasConstants};
+
+/// The ends of a segment are resources of the device.
+pub fn ends_are_there()
+    ensures law { EndsAreThere }
+{}
+
+/// The graph of a device has the constants that its nodes carry.
+pub fn graph_has_constants()
+    ensures law { GraphHasConstants }
+{}

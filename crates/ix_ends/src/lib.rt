@@ -4,7 +4,11 @@
 
 mod ends;
 mod laws;
+mod numbers;
 mod pair;
+mod pairs;
+mod stop;
 
 pub use ends::{Ends, EndsFault};
+pub use laws::{ends_are_there, graph_has_constants};
 pub use pair::Pair;

@@ -1,13 +1,11 @@
 -- All nets have their pairs, one net after another.
-use Rattle.std.proofs.Common.{◌≡◌, ◌⊎◌, ◌<◌, ◌≤◌, ◌+◌, ◌∙◌, refl, ap, sym, subst, ℕ, zero, suc, arith}
-use Rattle.std.proofs.Common.{inl, inr, List, [], ◌∷◌, ◌++◌, append_assoc, length, take, slice_get}
+use Rattle.std.proofs.Common.{◌≡◌, ◌≤◌, ◌+◌, ◌∙◌, refl, ap, sym, subst, ℕ, zero, suc, arith}
+use Rattle.std.proofs.Common.{inl, inr, List, [], ◌∷◌, ◌++◌, length, take, slice_get}
 use Rattle.std.proofs.Common.{Option, Some, None, IsSome, IfSome, is_some, option_map}
-use Rattle.std.specs.List.{flat_map}
 use Rattle.std.proofs.lemmas.Bool.{cases_lt, false≢true}
 use Rattle.std.proofs.lemmas.Grind.{flat_map-append}
 use Rattle.std.proofs.lemmas.List.{append-nil, length-append, take_all}
 use Rattle.std.proofs.lemmas.List.Concat.{flat_map-cons}
-use Rattle.std.proofs.lemmas.Option.{none-some, same_Some, slice_get_within}
 use Rattle.ix_rec.specs.declared.device.DeviceRec.{DeviceRec}
 use Rattle.ix_rec.specs.declared.forest.Branch.{Branch}
 use Rattle.ix_rec.specs.declared.phys.Phys.{Phys}
@@ -24,7 +22,7 @@ use Rattle.ix_ends.specs.declared.pairs.Pairs.{Pairs}
 use Rattle.ix_ends.specs.Ends.{IsFirstWithoutEnds}
 use Rattle.ix_ends.specs.Numbering.{AreNumbers}
 use Rattle.ix_ends.specs.Pairs.{ArePairs, AddsPairs, AreFilled, IsFirstWithout, all_segments}
-use Rattle.ix_ends.proofs.Items.{into_first, into_second, from_both}
+use Rattle.ix_ends.proofs.Items.{into_first, into_second}
 use Rattle.ix_ends.proofs.Pairing.{none_added, both_added, pairs_count, ends_at}
 
 -- the segments of one net more
@@ -50,7 +48,7 @@ no_ends : (rec : DeviceRec) (net : PhysNet) (k : SegmentNumber) (b : Branch Segm
     → slice_get (segments net) k ≡ Some b → ends rec b.item ≡ None → SegmentHasEnds rec net k → ⊥
 no_ends rec net k b is none has =
     let there : IsSome (ends rec b.item) = subst (λ o.
-        IfSome (option_map (λ (b : Branch Segment). b.item) o) (λ s. IsSome (ends rec s))) is has in
+    IfSome (option_map (λ (b : Branch Segment). b.item) o) (λ s. IsSome (ends rec s))) is has in
     false≢true (sym (ap is_some none) ∙ there)
 
 -- the first so many nets have their pairs

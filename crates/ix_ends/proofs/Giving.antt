@@ -1,6 +1,6 @@
 -- Numbers that are given: at first to nodes alone, then to a site's wires, and so to resources.
-use Rattle.std.proofs.Common.{◌≡◌, ◌≢◌, ◌⊎◌, ◌<◌, ◌≤◌, ◌+◌, ◌^◌, ◌∙◌, refl, ap, sym, subst, ℕ, arith}
-use Rattle.std.proofs.Common.{◌++◌, ◌-◌, take, inl, inr, List, [], ◌∷◌, length, set, get_or, slice_get, Option, Some}
+use Rattle.std.proofs.Common.{◌≡◌, ◌⊎◌, ◌<◌, ◌≤◌, ◌+◌, ◌^◌, ◌∙◌, refl, ap, sym, subst, ℕ, arith}
+use Rattle.std.proofs.Common.{◌++◌, ◌-◌, take, inl, inr, List, [], length, set, get_or, slice_get, Option, Some}
 use Rattle.std.proofs.Common.{None, replicate, zero, suc, length-set, option_map, option_and_then}
 use Rattle.std.proofs.lemmas.Bool.{cases_eq}
 use Rattle.std.proofs.lemmas.Option.{none-some, same_Some, slice_get_read}
@@ -57,7 +57,7 @@ pub nodes_alone : (rec : DeviceRec) (numbers : Numbers) (count : ℕ)
     → numbers.count ≡ length (nodes rec) → numbers.count < 2 ^ 32 → AreNumbers rec numbers
 nodes_alone rec numbers count bases sites is few =
     let none : (site base : ℕ) → HasBase numbers site base → ⊥ = λ site base h.
-        none_in count site base (ap (λ (xs : List (Option ℕ)). slice_get xs site) (sym bases) ∙ h) in
+    none_in count site base (ap (λ (xs : List (Option ℕ)). slice_get xs site) (sym bases) ∙ h) in
     record {
       sites_all = ap length bases ∙ length_none count ∙ sites;
       few = few;
@@ -87,7 +87,7 @@ module _ (rec : DeviceRec) (before now : Numbers) (site wires : ℕ) (are : AreN
       → ((site ≡ s) × (before.count ≡ base)) ⊎ HasBase before s base
   has_cases s base h =
       let there : slice_get (set before.bases.items site (Some before.count)) s ≡ Some (Some base)
-          = ap (λ (xs : List (Option ℕ)). slice_get xs s) (sym written) ∙ h in
+      = ap (λ (xs : List (Option ℕ)). slice_get xs s) (sym written) ∙ h in
       elim (cases_eq site s) [
         | inl same ↦ inl (
           same,
@@ -228,8 +228,8 @@ number_kept rec before now (Wire site wire) number grows is =
     let up = grows.up in
     let low : number < before.count = is.within in
     let base = mapped (λ (b : ℕ). b + wire)
-        (option_and_then (λ (b : Option ℕ). b) (slice_get before.bases.items site)) number
-        is.number_is in
+    (option_and_then (λ (b : Option ℕ). b) (slice_get before.bases.items site)) number
+    is.number_is in
     let has = chained (λ (b : Option ℕ). b) (slice_get before.bases.items site) base.0 base.1 in
     record {
       there = is.there;

@@ -1,6 +1,6 @@
 -- Items of lists by their places, and what is told of what may be there.
-use Rattle.std.proofs.Common.{◌≡◌, ◌≢◌, ◌⊎◌, ◌<◌, ◌≤◌, ◌+◌, ◌∙◌, refl, ap, sym, ℕ, zero, suc, arith}
-use Rattle.std.proofs.Common.{inl, inr, List, [], ◌∷◌, ◌++◌, length, take, drop, set, slice_get}
+use Rattle.std.proofs.Common.{◌≡◌, ◌≢◌, ◌⊎◌, ◌<◌, ◌+◌, ◌∙◌, refl, ap, ℕ, zero, suc, arith}
+use Rattle.std.proofs.Common.{inl, inr, List, [], ◌∷◌, ◌++◌, length, take, set, slice_get}
 use Rattle.std.proofs.Common.{Option, Some, None, option_map, option_and_then}
 use Rattle.std.proofs.lemmas.Option.{none-some, same_Some}
 

@@ -1,3 +1,4 @@
+pub mod Ending
 pub mod Filling
 pub mod Items
 pub mod Laying

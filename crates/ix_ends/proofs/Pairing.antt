@@ -1,8 +1,8 @@
 -- Pairs that are put behind others, and the first segment without ends.
-use Rattle.std.proofs.Common.{◌≡◌, ◌⊎◌, ◌<◌, ◌≤◌, ◌+◌, ◌∙◌, refl, ap, sym, subst, ℕ, zero, suc, arith}
+use Rattle.std.proofs.Common.{◌≡◌, ◌+◌, ◌∙◌, refl, ap, sym, subst, ℕ, zero, suc, arith}
 use Rattle.std.proofs.Common.{inl, inr, List, [], ◌∷◌, ◌++◌, append_assoc, length, take, slice_get}
 use Rattle.std.proofs.Common.{Some, None, IsSome, is_some}
-use Rattle.std.proofs.lemmas.List.{append-nil, length-append}
+use Rattle.std.proofs.lemmas.List.{append-nil}
 use Rattle.std.proofs.lemmas.Option.{none-some, same_Some, slice_get_within}
 use Rattle.ix_num.specs.declared.resource.Res.{Res}
 use Rattle.ix_rec.specs.declared.device.DeviceRec.{DeviceRec}

@@ -1,5 +1,5 @@
 -- What segments have as ends is there, and so are the constants of a graph.
-use Rattle.std.proofs.Common.{◌≡◌, ◌<◌, ◌∙◌, refl, ap, sym, subst, ℕ, Bool, true, false, cond}
+use Rattle.std.proofs.Common.{◌≡◌, ◌<◌, ◌∙◌, refl, ap, subst, ℕ, Bool, true, false, cond}
 use Rattle.std.proofs.Common.{List, length, map, slice_get, Option, Some, None, nat_lt, nat_eq}
 use Rattle.std.proofs.Common.{option_map, option_and_then, arith}
 use Rattle.std.specs.List.{position, position_or_len, list_any, range_with_len}
@@ -12,7 +12,6 @@ use Rattle.ix_rec.specs.declared.device.DeviceRec.{DeviceRec}
 use Rattle.ix_rec.specs.declared.device.SiteType.{SiteType}
 use Rattle.ix_rec.specs.declared.device.Direction.{Direction}
 use Rattle.ix_rec.specs.declared.device.Direction.TheVariants.{Input, Output, Inout}
-use Rattle.ix_rec.specs.declared.phys.Segment.{Segment}
 use Rattle.ix_rec.specs.declared.phys.BranchKind.{BranchKind}
 use Rattle.ix_rec.specs.declared.phys.BranchKind.TheVariants.{BelPin, SitePin, Pip, SitePip}
 use Rattle.ix_device.specs.Lookups.{sites_of, site_named, type_of_site, tile_named, tile_of_site}
@@ -25,10 +24,10 @@ use Rattle.ix_graph.specs.Ends.{site_pip_ends, ends_in_site, ends_by, ends}
 use Rattle.ix_graph.specs.Graph.{graph_of, node_at, ends_at, from_node, to_node}
 use Rattle.ix_graph.specs.Named.{pip_named}
 use Rattle.ix_graph.specs.Nodes.{nodes, nodes_from}
-use Rattle.ix_graph.specs.Pips.{DirectedPip, enters_at, leaves_at}
+use Rattle.ix_graph.specs.Pips.{enters_at, leaves_at}
 use Rattle.ix_graph.proofs.GraphLemmas.{node_below}
 use Rattle.ix_graph.proofs.NumberLemmas.{all_below}
-use Rattle.ix_ends.specs.Ends.{IsThere, wires_of_site}
+use Rattle.ix_ends.specs.Ends.{IsThere}
 use Rattle.ix_ends.specs.Laws.{EndsAreThere, GraphHasConstants}
 use Rattle.ix_ends.proofs.Items.{mapped, chained}
 
@@ -54,10 +53,10 @@ node_of_pin_there : (rec : DeviceRec) (site pin : ℕ) (r : Res) → node_of_pin
     → IsThere rec r
 node_of_pin_there rec site pin r h =
     let tile = chained (λ tile. option_and_then (λ w.
-        option_map (λ n. Node n) (node_at (graph_of rec).wires tile w))
-        (wire_of_site_pin rec site pin)) (tile_of_site rec site) r h in
+    option_map (λ n. Node n) (node_at (graph_of rec).wires tile w))
+    (wire_of_site_pin rec site pin)) (tile_of_site rec site) r h in
     let wire = chained (λ w. option_map (λ n. Node n) (node_at (graph_of rec).wires tile.0 w))
-        (wire_of_site_pin rec site pin) r tile.2 in
+    (wire_of_site_pin rec site pin) r tile.2 in
     let node = mapped (λ n. Node n) (node_at (graph_of rec).wires tile.0 wire.0) r wire.2 in
     subst (IsThere rec) node.2 (node_inside rec tile.0 wire.0 node.0 node.1)
 
@@ -71,8 +70,8 @@ module _ (rec : DeviceRec) (site t : ℕ) (typed : type_of_site rec site ≡ Som
       subst (IsThere rec) wire.2 (
         length ty.0.site_wires,
         ap (λ o. option_map (λ (u : SiteType). length u.site_wires)
-        (option_and_then (slice_get rec.site_type_list) o)) typed
-        ∙ ap (option_map (λ (u : SiteType). length u.site_wires)) ty.1,
+            (option_and_then (slice_get rec.site_type_list) o)) typed
+            ∙ ap (option_map (λ (u : SiteType). length u.site_wires)) ty.1,
         place_below (λ w. list_any (nat_eq pin) w.pins) ty.0.site_wires wire.0 ty.2,
       )
 
@@ -94,7 +93,7 @@ module _ (rec : DeviceRec) (site t : ℕ) (typed : type_of_site rec site ≡ Som
       → AreThere rec p
   bel_pin_there bel pin p h =
       let at = chained (λ q. both (wire_at rec site t q) (wire_at rec site t q))
-          (bel_pin_named rec t bel pin) p h in
+      (bel_pin_named rec t bel pin) p h in
       both_there rec (wire_at rec site t at.0) (wire_at rec site t at.0) p at.2
       (wire_there rec site t typed at.0) (wire_there rec site t typed at.0)
 
@@ -102,10 +101,10 @@ module _ (rec : DeviceRec) (site t : ℕ) (typed : type_of_site rec site ≡ Som
       → AreThere rec p
   site_pip_there bel pin p h =
       let from = chained (λ a. option_and_then (λ b. both (wire_at rec site t a)
-          (wire_at rec site t b)) (in_type (site_pip_from a) rec t)) (bel_pin_named rec t bel pin) p
-          h in
+      (wire_at rec site t b)) (in_type (site_pip_from a) rec t)) (bel_pin_named rec t bel pin) p
+      h in
       let to = chained (λ b. both (wire_at rec site t from.0) (wire_at rec site t b))
-          (in_type (site_pip_from from.0) rec t) p from.2 in
+      (in_type (site_pip_from from.0) rec t) p from.2 in
       both_there rec (wire_at rec site t from.0) (wire_at rec site t to.0) p to.2
       (wire_there rec site t typed from.0) (wire_there rec site t typed to.0)
 
@@ -124,9 +123,9 @@ module _ (rec : DeviceRec) (site t : ℕ) (typed : type_of_site rec site ≡ Som
       → AreThere rec p
   site_pin_there name p h =
       let number = chained (λ pin. option_and_then (pin_crossing rec site t pin)
-          (in_type (λ ty. slice_get ty.pins pin) rec t)) (in_type (site_pin_in name) rec t) p h in
+      (in_type (λ ty. slice_get ty.pins pin) rec t)) (in_type (site_pin_in name) rec t) p h in
       let pin = chained (pin_crossing rec site t number.0)
-          (in_type (λ ty. slice_get ty.pins number.0) rec t) p number.2 in
+      (in_type (λ ty. slice_get ty.pins number.0) rec t) p number.2 in
       crossing_there pin.0.dir pin.0.belpin number.0 p pin.2
 
   in_site_there : (kind : BranchKind) (second third : ℕ) (p : Res × Res)
@@ -141,7 +140,7 @@ of_site_there : (rec : DeviceRec) (kind : BranchKind) (first second third : ℕ)
 of_site_there rec kind first second third p h =
     let tell = ends_in_site kind rec second third in
     let site = chained (λ site. option_and_then (tell site) (type_of_site rec site))
-        (site_named rec first) p h in
+    (site_named rec first) p h in
     let t = chained (tell site.0) (type_of_site rec site.0) p site.2 in
     in_site_there rec site.0 t.0 t.1 kind second third p t.2
 
@@ -149,13 +148,13 @@ named_pip_there : (rec : DeviceRec) (first second third : ℕ) (forward : Bool) 
     → named_pip_ends rec first second third forward ≡ Some p → AreThere rec p
 named_pip_there rec first second third forward p h =
     let two = mapped {A = ℕ × ℕ} {B = Res × Res} (λ ns. (Node ns.0, Node ns.1))
-        (option_and_then (ends_at (graph_of rec).wires)
-        (option_and_then (λ t. pip_named rec t second third forward) (tile_named rec first))) p h in
+    (option_and_then (ends_at (graph_of rec).wires)
+    (option_and_then (λ t. pip_named rec t second third forward) (tile_named rec first))) p h in
     let pip = chained (ends_at (graph_of rec).wires)
-        (option_and_then (λ t. pip_named rec t second third forward) (tile_named rec first)) two.0
-        two.1 in
+    (option_and_then (λ t. pip_named rec t second third forward) (tile_named rec first)) two.0
+    two.1 in
     let from = chained {B = ℕ × ℕ} (λ n. option_map (λ m. (n, m)) (to_node (graph_of rec).wires pip.0))
-        (from_node (graph_of rec).wires pip.0) two.0 pip.2 in
+    (from_node (graph_of rec).wires pip.0) two.0 pip.2 in
     let to = mapped {B = ℕ × ℕ} (λ m. (from.0, m)) (to_node (graph_of rec).wires pip.0) two.0 from.2 in
     subst (AreThere rec) two.2 (subst {A = ℕ × ℕ} (λ ns. AreThere rec (Node ns.0, Node ns.1)) to.2 (
       node_inside rec pip.0.tile (enters_at pip.0) from.0 from.1,
@@ -194,7 +193,7 @@ pub site_there : (rec : DeviceRec) (site wire : ℕ) → IsThere rec (Wire site 
     → site < length (sites_of rec)
 site_there rec site wire there =
     let ty = mapped (λ (u : SiteType). length u.site_wires)
-        (option_and_then (slice_get rec.site_type_list) (type_of_site rec site)) there.0 there.1 in
+    (option_and_then (slice_get rec.site_type_list) (type_of_site rec site)) there.0 there.1 in
     let t = chained (slice_get rec.site_type_list) (type_of_site rec site) ty.0 ty.1 in
     let s = chained _ (slice_get (sites_of rec) site) t.0 t.1 in
     slice_get_within (sites_of rec) site s.0 s.1

@@ -19,7 +19,7 @@ use std::alloc::{AllocError, AllocFailed, Global};
 use std::marker::Model;
 
 /// Why there are no ends of a netlist.
-#[derive(Debug, Drop)]
+#[derive(Drop)]
 pub enum EndsFault {
     /// A net, and a segment of it that has no ends: the first such in the walk.
     NoEnds(u32, u32),
@@ -53,8 +53,8 @@ impl<T: Drop> From<AllocFailed<T>> for EndsFault {
 
 /// The ends of all segments of a netlist, as numbers: two ends have one number exactly where they
 /// are one resource. A node's number is its own; a site's wires get theirs when a segment first has
-/// one of them as an end. It takes 8 bytes a segment, a net and a site, and while it is made up to
-/// twice as many a segment.
+/// one of them as an end. It takes 8 bytes a net and a site, and 8 to 16 a segment, since the list
+/// grows by doubling.
 #[derive(Drop)]
 pub struct Ends {
     // The pairs of all segments, net after net.

@@ -1,4 +1,4 @@
-use Rattle.std.proofs.Common.{◌≡◌, ◌<◌, ◌∙◌, ap, sym, subst, arith, length, slice_get, Some}
+use Rattle.std.proofs.Common.{◌<◌, ◌∙◌, ap, sym, subst, arith, length, slice_get, Some}
 use Rattle.std.specs.Prelude.{slice_range}
 use Rattle.ix_ends.proofs.Laying.{places_in, in_order, within, row_read}
 use Rattle.ix_ends.proofs.ends.Ends.row.Goals as goal
@@ -20,8 +20,8 @@ between-requires c =
     let there = subst (λ s. c.args.net < length s.rows) (sym c.self.view_is) c.requires in
     let same = ap length c.as_slice.ensures.value in
     let end = within c.self.inside.starts.items c.self.inside.pairs.items c.args.net there
-        c.index-start.result.now c.index-end.result.now c.index-start.ensures c.index-end.ensures
-        c.self.invariant.starts_are in
+    c.index-start.result.now c.index-end.result.now c.index-start.ensures c.index-end.ensures
+    c.self.invariant.starts_are in
     record {
       order = in_order c.self.inside.starts.items c.self.inside.pairs.items c.args.net there
           c.index-start.result.now c.index-end.result.now c.index-start.ensures c.index-end.ensures

@@ -23,17 +23,17 @@ base_read bases place site base value same inside read is =
 pub overflow_add-result : goal.overflow_add-result
 overflow_add-result c =
     let has : slice_get c.args.self.now.bases c.args.site ≡ Some (Some c.in_ok-base.base)
-        = ap (λ s. slice_get s.bases c.args.site) (sym c.self.view_is)
-        ∙ base_read c.self.inside.bases.items c.get.result c.args.site c.in_ok-base.base
-        c.index.result.now c.get.ensures
-        (subst (λ s. c.args.site < length s.bases) (sym c.self.view_is) c.requires.site)
-        c.index.ensures c.in_ok-base.was in
+    = ap (λ s. slice_get s.bases c.args.site) (sym c.self.view_is)
+    ∙ base_read c.self.inside.bases.items c.get.result c.args.site c.in_ok-base.base
+    c.index.result.now c.get.ensures
+    (subst (λ s. c.args.site < length s.bases) (sym c.self.view_is) c.requires.site)
+    c.index.ensures c.in_ok-base.was in
     let low : c.in_ok-base.base + c.args.wire < c.args.self.now.count
-        = subst (λ o. IfSome o (λ i. i < c.args.self.now.count))
-        (number_by c.args.self.now c.args.site c.args.wire c.in_ok-base.base has)
-        c.requires.within in
+    = subst (λ o. IfSome o (λ i. i < c.args.self.now.count))
+    (number_by c.args.self.now c.args.site c.args.wire c.in_ok-base.base has)
+    c.requires.within in
     let all : c.args.self.now.count < 2 ^ 32
-        = subst (λ s. s.count < 2 ^ 32) c.self.view_is c.self.invariant.few in
+    = subst (λ s. s.count < 2 ^ 32) c.self.view_is c.self.invariant.few in
     let is = c.get-2.ensures in
     let few : c.in_ok-base.base + c.get-2.result < 2 ^ 32 = omega arith in
     search rules

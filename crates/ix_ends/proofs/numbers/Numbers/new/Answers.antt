@@ -1,5 +1,4 @@
-use Rattle.std.proofs.Common.{◌≡◌, ◌∙◌, ap, length, replicate, List, [], ◌++◌, ◌-◌, take, None, Option}
-use Rattle.std.proofs.Common.{ℕ, refl, arith}
+use Rattle.std.proofs.Common.{◌∙◌, ap, length}
 use Rattle.ix_graph.specs.Graph.{graph_of}
 use Rattle.ix_graph.proofs.NumberLemmas.{count_nodes}
 use Rattle.ix_ends.proofs.Giving.{nodes_alone, all_none}

@@ -1,4 +1,4 @@
-use Rattle.std.proofs.Common.{rules, ◌≡◌, ◌<◌, ◌+◌, ◌^◌, ◌∙◌, ap, sym, subst, arith}
+use Rattle.std.proofs.Common.{rules, ◌<◌, ◌+◌, ◌^◌, sym, subst, arith}
 use Rattle.ix_num.specs.declared.resource.Res.TheVariants.{Wire}
 use Rattle.ix_ends.specs.Numbering.{GivesNumber}
 use Rattle.ix_ends.proofs.Giving.{wire_given, wire_below}

@@ -1,4 +1,4 @@
-use Rattle.std.proofs.Common.{◌≡◌, ◌<◌, ◌∙◌, ap, sym, subst, refl, slice_get, get_or, Some, None}
+use Rattle.std.proofs.Common.{◌≡◌, ◌<◌, ◌∙◌, ap, sym, slice_get, get_or, Some}
 use Rattle.std.proofs.Common.{List, ℕ, length}
 use Rattle.std.proofs.lemmas.Option.{slice_get-get_or}
 use Rattle.ix_rec.specs.declared.forest.Branch.{Branch}

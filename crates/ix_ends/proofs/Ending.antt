@@ -1,5 +1,6 @@
 -- What was filled in tells the ends of a netlist.
-use Rattle.std.proofs.Common.{◌≡◌, ◌<◌, ◌≤◌, ◌+◌, ◌-◌, ◌∙◌, refl, ap, sym, subst, ℕ, zero, suc, arith}
+use Rattle.std.proofs.Common.{◌≡◌, ◌<◌, ◌≤◌, ◌+◌, ◌-◌, ◌∙◌, refl, ap, sym, subst}
+use Rattle.std.proofs.Common.{ℕ, zero, suc, arith}
 use Rattle.std.proofs.Common.{List, [], ◌∷◌, ◌++◌, length, take, drop, slice_get}
 use Rattle.std.proofs.Common.{Option, Some, None, option_and_then}
 use Rattle.std.specs.Prelude.{slice_index, slice_range}
@@ -92,8 +93,11 @@ seen_with numbers rows count = record {
 
 module _ (rec : DeviceRec) (numbers : Numbers) (rows : List (List Pair)) (count : ℕ)
     (are : AreNumbers rec numbers) (counted : count ≡ length (nodes rec)) where
+  abbrev Numbered : Res → ℕ → Type 0
+  Numbered r number = IsNumbered rec (seen_with numbers rows count) r number
+
   to_seen : (r : Res) (number : ℕ) → IsNumbered rec (seen_by numbers) r number
-      → IsNumbered rec (seen_with numbers rows count) r number
+      → Numbered r number
   to_seen (Node n) number is =
       record { there = is.there; number_is = is.number_is; within = is.within }
   to_seen (Wire site wire) number is =
@@ -109,7 +113,7 @@ module _ (rec : DeviceRec) (numbers : Numbers) (rows : List (List Pair)) (count 
     to_is = to_seen has.to p.to has.to_is;
   }
 
-  base_of : (site wire number : ℕ) → IsNumbered rec (seen_with numbers rows count) (Wire site wire) number
+  base_of : (site wire number : ℕ) → Numbered (Wire site wire) number
       → (base : ℕ) × HasBase numbers site base × (base + wire ≡ number)
   base_of site wire number is =
       let base = mapped (λ (b : ℕ). b + wire)
@@ -118,13 +122,13 @@ module _ (rec : DeviceRec) (numbers : Numbers) (rows : List (List Pair)) (count 
       let has = chained (λ (b : Option ℕ). b) (slice_get numbers.bases.items site) base.0 base.1 in
       (base.0, has.1 ∙ ap Some has.2, base.2)
 
-  node_first : (n number : ℕ) → IsNumbered rec (seen_with numbers rows count) (Node n) number → number < count
+  node_first : (n number : ℕ) → Numbered (Node n) number → number < count
   node_first n number is =
       let same : n ≡ number = same_Some n number is.number_is in
       let low : n < length (nodes rec) = is.there in
       omega arith
 
-  wire_after : (site wire number : ℕ) → IsNumbered rec (seen_with numbers rows count) (Wire site wire) number
+  wire_after : (site wire number : ℕ) → Numbered (Wire site wire) number
       → count ≤ number
   wire_after site wire number is =
       let base = base_of site wire number is in
@@ -132,8 +136,8 @@ module _ (rec : DeviceRec) (numbers : Numbers) (rows : List (List Pair)) (count 
       let sum : base.0 + wire ≡ number = base.2 in
       omega arith
 
-  one_wire : (site wire site2 wire2 number : ℕ) → IsNumbered rec (seen_with numbers rows count) (Wire site wire) number
-      → IsNumbered rec (seen_with numbers rows count) (Wire site2 wire2) number → Wire site wire ≡ Wire site2 wire2
+  one_wire : (site wire site2 wire2 number : ℕ) → Numbered (Wire site wire) number
+      → Numbered (Wire site2 wire2) number → Wire site wire ≡ Wire site2 wire2
   one_wire site wire site2 wire2 number is is2 =
       let base = base_of site wire number is in
       let base2 = base_of site2 wire2 number is2 in
@@ -145,8 +149,8 @@ module _ (rec : DeviceRec) (numbers : Numbers) (rows : List (List Pair)) (count 
       let b : base2.0 + wire2 ≡ number = base2.2 in
       ap (λ (n : ℕ). Wire n wire) same_site ∙ ap (Wire site2) (omega arith)
 
-  apart : (one other : Res) (number : ℕ) → IsNumbered rec (seen_with numbers rows count) one number
-      → IsNumbered rec (seen_with numbers rows count) other number → one ≡ other
+  apart : (one other : Res) (number : ℕ) → Numbered one number
+      → Numbered other number → one ≡ other
   apart (Node n) (Node m) number is is2 =
       ap Node (same_Some n number is.number_is ∙ sym (same_Some m number is2.number_is))
   apart (Node n) (Wire site wire) number is is2 =

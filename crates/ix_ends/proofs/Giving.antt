@@ -1,6 +1,7 @@
 -- Numbers that are given: at first to nodes alone, then to a site's wires, and so to resources.
 use Rattle.std.proofs.Common.{◌≡◌, ◌⊎◌, ◌<◌, ◌≤◌, ◌+◌, ◌^◌, ◌∙◌, refl, ap, sym, subst, ℕ, arith}
-use Rattle.std.proofs.Common.{◌++◌, ◌-◌, take, inl, inr, List, [], length, set, get_or, slice_get, Option, Some}
+use Rattle.std.proofs.Common.{◌++◌, ◌-◌, take, inl, inr, List, [], length, set, get_or, slice_get}
+use Rattle.std.proofs.Common.{Option, Some}
 use Rattle.std.proofs.Common.{None, replicate, zero, suc, length-set, option_map, option_and_then}
 use Rattle.std.proofs.lemmas.Bool.{cases_eq}
 use Rattle.std.proofs.lemmas.Option.{none-some, same_Some, slice_get_read}
@@ -48,7 +49,8 @@ all_none count xs len empty none =
     ∙ nothing count
     ∙ ap (λ (n : ℕ). replicate n None) (omega arith)
   where
-    nothing : (n : ℕ) → take n [] ++ replicate (count - len) None ≡ replicate {A = Option ℕ} (count - len) None
+    nothing : (n : ℕ) → take n [] ++ replicate (count - len) None
+        ≡ replicate {A = Option ℕ} (count - len) None
     nothing zero = refl
     nothing (suc n) = refl
 
@@ -72,7 +74,8 @@ nodes_alone rec numbers count bases sites is few =
 pub none_at : (bases : List (Option ℕ)) (place : ℕ) (value : Option ℕ) → place < length bases
     → value ≡ get_or bases place value → ((base : ℕ) → value ≡ Some base → ⊥)
     → slice_get bases place ≡ Some None
-none_at bases place None inside read not = slice_get_read bases (length bases) place None refl inside read
+none_at bases place None inside read not =
+    slice_get_read bases (length bases) place None refl inside read
 none_at bases place (Some base) inside read not = absurd (not base refl)
 
 module _ (rec : DeviceRec) (before now : Numbers) (site wires : ℕ) (are : AreNumbers rec before)
@@ -112,7 +115,8 @@ module _ (rec : DeviceRec) (before now : Numbers) (site wires : ℕ) (are : AreN
       subst (λ (n : ℕ). wire < n) (same_Some there.0 wires (sym there.1 ∙ wires_are)) there.2
 
   below_at : (s wire : ℕ) → site ≡ s → IsThere rec (Wire s wire) → wire < wires
-  below_at s wire same there = below wire (subst (λ (n : ℕ). IsThere rec (Wire n wire)) (sym same) there)
+  below_at s wire same there =
+      below wire (subst (λ (n : ℕ). IsThere rec (Wire n wire)) (sym same) there)
 
   apart_now : (one other base base2 wire wire2 : ℕ) → HasBase now one base → HasBase now other base2
       → IsThere rec (Wire one wire) → IsThere rec (Wire other wire2) → base + wire ≡ base2 + wire2
@@ -179,7 +183,8 @@ same_base rec numbers site base are has =
     record { numbers = are; grows = same_grow numbers; base_is = has }
 
 pub base_at : (bases : List (Option ℕ)) (place base : ℕ) (value : Option ℕ) → place < length bases
-    → value ≡ get_or bases place value → value ≡ Some base → slice_get bases place ≡ Some (Some base)
+    → value ≡ get_or bases place value → value ≡ Some base
+    → slice_get bases place ≡ Some (Some base)
 base_at bases place base value inside read is =
     slice_get_read bases (length bases) place value refl inside read ∙ ap Some is
 

@@ -14,7 +14,8 @@ module _ {A : Type 0} (starts : List ℕ) (items : List A) where
   unfolding rows_of
   rows_count = length-map-range_with_len (row_at starts items) 0 (length starts - 1)
 
-  pub row_is : (n : ℕ) → n + 1 < length starts → slice_get (rows_of starts items) n ≡ Some (row_at starts items n)
+  pub row_is : (n : ℕ) → n + 1 < length starts
+      → slice_get (rows_of starts items) n ≡ Some (row_at starts items n)
   unfolding rows_of
   row_is n lt =
       let count : length (map (row_at starts items) (range_with_len 0 (length starts - 1)))

@@ -153,9 +153,11 @@ named_pip_there rec first second third forward p h =
     let pip = chained (ends_at (graph_of rec).wires)
     (option_and_then (λ t. pip_named rec t second third forward) (tile_named rec first)) two.0
     two.1 in
-    let from = chained {B = ℕ × ℕ} (λ n. option_map (λ m. (n, m)) (to_node (graph_of rec).wires pip.0))
+    let from = chained {B = ℕ × ℕ} (λ n.
+    option_map (λ m. (n, m)) (to_node (graph_of rec).wires pip.0))
     (from_node (graph_of rec).wires pip.0) two.0 pip.2 in
-    let to = mapped {B = ℕ × ℕ} (λ m. (from.0, m)) (to_node (graph_of rec).wires pip.0) two.0 from.2 in
+    let to = mapped {B = ℕ × ℕ} (λ m. (from.0, m)) (to_node (graph_of rec).wires pip.0) two.0
+    from.2 in
     subst (AreThere rec) two.2 (subst {A = ℕ × ℕ} (λ ns. AreThere rec (Node ns.0, Node ns.1)) to.2 (
       node_inside rec pip.0.tile (enters_at pip.0) from.0 from.1,
       node_inside rec pip.0.tile (leaves_at pip.0) to.0 to.1,
@@ -183,7 +185,8 @@ unfolding graph_of
 constants_there rec n lt =
     let all = map (constant_of_node rec) (range_with_len 0 (length (nodes rec))) in
     let count : length (map (constant_of_node rec) (range_with_len 0 (length (nodes rec))))
-    ≡ length (nodes rec) = length-map-range_with_len (constant_of_node rec) 0 (length (nodes rec)) in
+    ≡ length (nodes rec)
+    = length-map-range_with_len (constant_of_node rec) 0 (length (nodes rec)) in
     slice_get-get_or all n None (omega arith)
     ∙ ap Some (get_or-map-range_with_len (constant_of_node rec) 0 (length (nodes rec)) n n None lt
     (omega arith))

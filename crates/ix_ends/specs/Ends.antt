@@ -24,8 +24,8 @@ use Rattle.ix_ends.specs.declared.ends.EndsFault.TheVariants.{NoEnds}
 abbrev pub ResNumber : Type 0
 ResNumber = ℕ
 
--- What contracts see: the ends of each segment, by net; how many nodes there are; by site the number
--- of its first wire, where its wires have numbers; and a number above all that are given.
+-- What contracts see: the ends of each segment, by net; how many nodes there are; by site the
+-- number of its first wire, where its wires have numbers; and a number above all that are given.
 pub record EndsSeen : Type 0 where
   pub rows : List (List Pair)
   pub nodes : ℕ

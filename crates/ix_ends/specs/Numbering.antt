@@ -35,7 +35,12 @@ pub record Grows (before now : Numbers) : Type 0 where
 
 -- what these numbers are for contracts that see those of a netlist's ends
 abbrev pub seen_by : Numbers → EndsSeen
-seen_by numbers = record { rows = []; nodes = 0; bases = numbers.bases.items; count = numbers.count }
+seen_by numbers = record {
+  rows = [];
+  nodes = 0;
+  bases = numbers.bases.items;
+  count = numbers.count;
+}
 
 -- the site's wires have numbers from this one on, now if they hadn't before
 pub record GivesBase (rec : DeviceRec) (before now : Numbers) (site : SiteNumber) (base : ResNumber)

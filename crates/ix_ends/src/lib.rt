@@ -1,5 +1,5 @@
-//! The ends of a netlist's segments, by number: what the crates that judge trees and sharing look at
-//! in place of names.
+//! The ends of a netlist's segments, by number: what the crates that judge trees and sharing look
+//! at in place of names.
 #![tactic(auto)]
 
 mod ends;

@@ -1,5 +1,6 @@
 use Rattle.std.proofs.Common.{rules, ◌≡◌, ◌<◌, ◌+◌, ◌^◌, ◌∙◌, ap, sym, subst, arith, slice_get}
-use Rattle.std.proofs.Common.{Some, IfSome, ℕ, Option, option_map, option_and_then, List, get_or, length, refl}
+use Rattle.std.proofs.Common.{Some, IfSome, ℕ, Option, option_map, option_and_then, List, get_or}
+use Rattle.std.proofs.Common.{length, refl}
 use Rattle.std.proofs.lemmas.Option.{slice_get_read}
 use Rattle.ix_ends.specs.Ends.{EndsSeen, number_of}
 use Rattle.ix_num.specs.declared.resource.Res.TheVariants.{Wire}

@@ -4,7 +4,7 @@ use Rattle.std.proofs.Common.{List, length, map, slice_get, Option, Some, None, 
 use Rattle.std.proofs.Common.{option_map, option_and_then, arith}
 use Rattle.std.specs.List.{position, position_or_len, list_any, range_with_len}
 use Rattle.std.proofs.lemmas.Bool.{ltb-true}
-use Rattle.std.proofs.lemmas.Option.{none-some, same_Some, slice_get-get_or, slice_get_within}
+use Rattle.std.proofs.lemmas.Option.{none-some, same_Some, slice_get-get_or}
 use Rattle.std.proofs.lemmas.List.FromFn.{get_or-map-range_with_len, length-map-range_with_len}
 use Rattle.ix_num.specs.declared.resource.Res.{Res}
 use Rattle.ix_num.specs.declared.resource.Res.TheVariants.{Node, Wire}
@@ -14,7 +14,7 @@ use Rattle.ix_rec.specs.declared.device.Direction.{Direction}
 use Rattle.ix_rec.specs.declared.device.Direction.TheVariants.{Input, Output, Inout}
 use Rattle.ix_rec.specs.declared.phys.BranchKind.{BranchKind}
 use Rattle.ix_rec.specs.declared.phys.BranchKind.TheVariants.{BelPin, SitePin, Pip, SitePip}
-use Rattle.ix_device.specs.Lookups.{sites_of, site_named, type_of_site, tile_named, tile_of_site}
+use Rattle.ix_device.specs.Lookups.{site_named, type_of_site, tile_named, tile_of_site}
 use Rattle.ix_device.specs.Lookups.{in_type, wire_in, site_pin_in, wire_of_site_pin}
 use Rattle.ix_device.specs.SitePips.{site_pip_from}
 use Rattle.ix_graph.specs.Constants.{constant_of_node}
@@ -26,9 +26,9 @@ use Rattle.ix_graph.specs.Named.{pip_named}
 use Rattle.ix_graph.specs.Nodes.{nodes, nodes_from}
 use Rattle.ix_graph.specs.Pips.{enters_at, leaves_at}
 use Rattle.ix_graph.proofs.GraphLemmas.{node_below}
-use Rattle.ix_graph.proofs.NumberLemmas.{all_below}
+use Rattle.ix_graph.proofs.NumberLemmas.{all_below, count_nodes}
 use Rattle.ix_ends.specs.Ends.{IsThere}
-use Rattle.ix_ends.specs.Laws.{EndsAreThere, GraphHasConstants}
+use Rattle.ix_ends.specs.Laws.{EndsAreThere, GraphHasConstants, GraphHasNodes}
 use Rattle.ix_ends.proofs.Items.{mapped, chained}
 
 place_below : {X : Type 0} (p : X → Bool) (xs : List X) (n : ℕ) → position p xs ≡ Some n
@@ -191,12 +191,7 @@ constants_there rec n lt =
     ∙ ap Some (get_or-map-range_with_len (constant_of_node rec) 0 (length (nodes rec)) n n None lt
     (omega arith))
 
--- a site of which a wire is there is there
-pub site_there : (rec : DeviceRec) (site wire : ℕ) → IsThere rec (Wire site wire)
-    → site < length (sites_of rec)
-site_there rec site wire there =
-    let ty = mapped (λ (u : SiteType). length u.site_wires)
-    (option_and_then (slice_get rec.site_type_list) (type_of_site rec site)) there.0 there.1 in
-    let t = chained (slice_get rec.site_type_list) (type_of_site rec site) ty.0 ty.1 in
-    let s = chained _ (slice_get (sites_of rec) site) t.0 t.1 in
-    slice_get_within (sites_of rec) site s.0 s.1
+-- The graph has the device's nodes.
+pub nodes_there : GraphHasNodes
+unfolding graph_of
+nodes_there rec = count_nodes rec

@@ -19,3 +19,7 @@ EndsAreThere = (rec : DeviceRec) (s : Segment) (from to : Res) → ends rec s �
 abbrev pub GraphHasConstants : Type 0
 GraphHasConstants = (rec : DeviceRec) (n : NodeNumber) → n < length (nodes rec)
     → slice_get (graph_of rec).constants n ≡ Some (constant_of_node rec n)
+
+-- The graph of a device has its nodes.
+abbrev pub GraphHasNodes : Type 0
+GraphHasNodes = (rec : DeviceRec) → length (graph_of rec).firsts ≡ length (nodes rec)

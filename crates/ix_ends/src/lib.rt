@@ -10,5 +10,5 @@ mod pairs;
 mod stop;
 
 pub use ends::{Ends, EndsFault};
-pub use laws::{ends_are_there, graph_has_constants};
+pub use laws::{ends_are_there, graph_has_constants, graph_has_nodes};
 pub use pair::Pair;

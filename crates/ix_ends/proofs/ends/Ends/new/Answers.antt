@@ -1,7 +1,6 @@
 use Rattle.std.proofs.Common.{ap, length, ◌∙◌}
-use Rattle.ix_graph.specs.Graph.{graph_of}
-use Rattle.ix_graph.proofs.NumberLemmas.{count_nodes}
 use Rattle.ix_ends.proofs.Ending.{laid, ends_are}
+use Rattle.ix_ends.proofs.There.{nodes_there}
 use Rattle.ix_ends.proofs.ends.Ends.new.Goals as goal
 
 pub invariant_of-result : goal.invariant_of-result
@@ -10,10 +9,9 @@ invariant_of-result c =
     c.in_ok-starts.starts.items c.in_ok-all.ensures.none c.in_ok-starts.ensures.filled
 
 pub returns-clause-ends : goal.returns-clause-ends
-unfolding graph_of
 returns-clause-ends c =
     ends_are c.args.device.now c.args.phys.now c.in_ok-all.all c.add_nets.new.self
     c.in_ok-starts.starts.items c.in_ok-all.ensures.none c.in_ok-starts.ensures.filled
     c.nodes.result
     (c.nodes.ensures ∙ ap (λ g. length g.firsts) c.requires.graph
-    ∙ count_nodes c.args.device.now)
+    ∙ nodes_there c.args.device.now)

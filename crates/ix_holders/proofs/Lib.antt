@@ -1,1 +1,5 @@
 pub mod Marking
+pub mod Sharing
+pub mod Netting
+pub mod Counting
+pub mod Ending

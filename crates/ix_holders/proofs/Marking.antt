@@ -43,8 +43,8 @@ module _ (rec : DeviceRec) (seen : EndsSeen)
       same_Some i j (sym a.number_is ∙ (ap (number_of seen) same ∙ b.number_is))
 
   module _ (has : Having) (n : NetNumber) (up_to : IsUpTo n has) (r : Res) (number : ResNumber)
-      (is : IsNumbered rec seen r number) (marks : List ℕ) (before : AreMarks rec seen has marks)
-  where
+      (is : IsNumbered rec seen r number) (marks : List ℕ)
+      (before : AreMarks rec seen has marks) where
     -- a mark where there was none
     new_mark : slice_get marks number ≡ Some 0
         → AreMarks rec seen (WithEnd has n r) (set marks number (suc n))

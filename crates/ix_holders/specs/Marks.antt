@@ -10,12 +10,15 @@ use Rattle.ix_rec.specs.declared.phys.PhysNet.{PhysNet}
 use Rattle.ix_rec.specs.declared.phys.NetType.{NetType}
 use Rattle.ix_rec.specs.declared.phys.Segment.{Segment}
 use Rattle.ix_rec.specs.declared.phys.BranchKind.TheVariants.{Pip}
+use Rattle.ix_graph.specs.Graph.{Graph}
+use Rattle.ix_graph.specs.Constants.{constant_of_node}
 use Rattle.ix_legal.specs.declared.level.Level.{Level}
 use Rattle.ix_legal.specs.Segments.{NetNumber, SegmentNumber, segment_at, IsEnd}
 use Rattle.ix_legal.specs.Holders.{constant_of, constant_of_net}
 use Rattle.ix_legal.specs.declared.spot.Spot.TheVariants.{SegmentAt}
 use Rattle.ix_legal.specs.Spots.{Everywhere, IsFirstBreak}
 use Rattle.ix_legal.specs.Sharing.{Counts, SharesNothing, IsUnshared}
+use Rattle.ix_legal.specs.Breaks.{AreKept}
 use Rattle.ix_ends.specs.declared.pair.Pair.{Pair}
 use Rattle.ix_ends.specs.Ends.{EndsSeen, ResNumber, IsNumbered, HasNumbers}
 
@@ -128,23 +131,52 @@ pub record IsHere (rec : DeviceRec) (seen : EndsSeen) (phys : Phys) (n : NetNumb
   pub segment_is : segment_at net k ≡ Some s
   pub numbers : HasNumbers rec seen s pair
 
--- a net shares no end, and then its ends are marked; or this is its first segment that shares one
-abbrev pub IsFirstInNet : Level → DeviceRec → EndsSeen → Phys → NetNumber → (marks : List ℕ)
-    → Option SegmentNumber → Type 0
-IsFirstInNet level rec seen phys n marks None =
-    ((net : PhysNet) (k : SegmentNumber) → slice_get phys.nets n ≡ Some net
-    → SharesNothing level rec phys n net k) × MarksAt rec seen phys (suc n) 0 marks
-IsFirstInNet level rec seen phys n marks (Some k) =
+-- where nothing was found, all ends of the nets before this one are marked
+abbrev pub MarksAfter : {A : Type 0} → DeviceRec → EndsSeen → Phys → NetNumber → (marks : List ℕ)
+    → Option A → Type 0
+MarksAfter rec seen phys n marks None = MarksAt rec seen phys n 0 marks
+MarksAfter rec seen phys n marks (Some found) = Unit {0}
+
+-- a net shares no end, or this is its first segment that shares one
+abbrev pub IsFirstInNet : Level → DeviceRec → Phys → NetNumber → Option SegmentNumber → Type 0
+IsFirstInNet level rec phys n None =
+    (net : PhysNet) (k : SegmentNumber) → slice_get phys.nets n ≡ Some net
+    → SharesNothing level rec phys n net k
+IsFirstInNet level rec phys n (Some k) =
     (net : PhysNet) → slice_get phys.nets n ≡ Some net → IsFirstSharing level rec phys n net k
 
 -- the same of all nets
-abbrev pub IsFirstOfAll : Level → DeviceRec → EndsSeen → Phys → (marks : List ℕ)
-    → Option (NetNumber × SegmentNumber) → Type 0
-IsFirstOfAll level rec seen phys marks None =
-    Everywhere (IsUnshared level rec phys) × MarksAt rec seen phys (length phys.nets) 0 marks
-IsFirstOfAll level rec seen phys marks (Some at) =
+abbrev pub IsFirstOfAll : Level → DeviceRec → Phys → Option (NetNumber × SegmentNumber) → Type 0
+IsFirstOfAll level rec phys None = Everywhere (IsUnshared level rec phys)
+IsFirstOfAll level rec phys (Some at) =
     IsFirstBreak (IsUnshared level rec phys) (SegmentAt at.0 at.1)
 
 -- the marks of wires, and of ends of PIPs of the nets so far
 abbrev pub CountedAt : DeviceRec → EndsSeen → Phys → NetNumber → SegmentNumber → List Bool → Type 0
 CountedAt rec seen phys n k counted = AreOfPips rec seen (IsPipSoFar rec phys.nets n k) counted
+
+-- what a graph tells of the constants of nodes is the record's
+pub record KnowsConstants (rec : DeviceRec) (graph : Graph) (seen : EndsSeen) : Type 0 where
+  pub firsts : seen.nodes ≤ length graph.firsts
+  pub constants : (n : ℕ) → n < seen.nodes
+      → slice_get graph.constants n ≡ Some (constant_of_node rec n)
+
+-- Within a net: the marks, and that its segments so far share nothing.
+pub record IsInNet (rec : DeviceRec) (seen : EndsSeen) (phys : Phys) (counted : List Bool)
+    (n : NetNumber) (k : SegmentNumber) (marks : List ℕ) : Type 0 where
+  pub marks_are : MarksAt rec seen phys n k marks
+  pub share_nothing : (level : Level) → AreCounted level rec phys seen counted → (net : PhysNet)
+      → slice_get phys.nets n ≡ Some net → NetShares level rec phys n net k
+
+-- Before a net: the marks, and that no segment of the nets before it shares anything.
+pub record IsBeforeNet (rec : DeviceRec) (seen : EndsSeen) (phys : Phys) (counted : List Bool)
+    (n : NetNumber) (marks : List ℕ) : Type 0 where
+  pub marks_are : MarksAt rec seen phys n 0 marks
+  pub share_nothing : (level : Level) → AreCounted level rec phys seen counted
+      → AreKept phys (λ m net. Unit {0}) (SharesNothing level rec phys) n
+
+-- the first so many marks, set at numbers of wires
+pub record AreOfWires (seen : EndsSeen) (count : ℕ) (counted : List Bool) : Type 0 where
+  pub all : length counted ≡ count
+  pub each : (number : ResNumber) → number < count
+      → (slice_get counted number ≡ Some true) ↔ (seen.nodes ≤ number)

@@ -36,10 +36,25 @@ fn add_pips(device: &Device, phys: &Phys, ends: &Ends, marks: &mut [bool], net: 
     let segments = phys.nets.at(net as usize);
     let row = ends.row(net);
     for k in 0..row.len() {
-        if segment_at(segments, k).kind == BranchKind::Pip {
-            marks[row[k].from as usize] = true;
-            marks[row[k].to as usize] = true;
+        match segment_at(segments, k).kind {
+            BranchKind::Pip => {
+                marks[row[k].from as usize] = true;
+                marks[row[k].to as usize] = true;
+            }
+            _ => {}
         }
+    }
+}
+
+// Sets the marks of the ends of all PIPs.
+fn add_all_pips(device: &Device, phys: &Phys, ends: &Ends, marks: &mut [bool])
+    requires ends { AreEnds device.now phys.now ends.now }
+    requires small { IsSmall phys.now }
+    requires marks { CountedAt device.now ends.now phys.now 0 0 marks.old }
+    ensures { CountedAt device.now ends.now phys.now (length phys.now.nets) 0 marks.new }
+{
+    for net in 0..phys.nets.len() {
+        add_pips(device, phys, ends, marks, net as u32);
     }
 }
 
@@ -57,14 +72,16 @@ pub fn counted(
     ensures { IfOk result (λ counted.
         AreCounted level device.now phys.now ends.now counted.items) }
 {
-    if level == Level::Routed {
-        let mut all = Vec::new(alloc);
-        all.resize(ends.count() as usize, true)?;
-        return Ok(all);
+    match level {
+        Level::Routed => {
+            let mut all = Vec::new(alloc);
+            all.resize(ends.count() as usize, true)?;
+            Ok(all)
+        }
+        Level::Placed => {
+            let mut marks = wires(alloc, device, phys, ends)?;
+            add_all_pips(device, phys, ends, &mut marks);
+            Ok(marks)
+        }
     }
-    let mut marks = wires(alloc, device, phys, ends)?;
-    for net in 0..phys.nets.len() {
-        add_pips(device, phys, ends, &mut marks, net as u32);
-    }
-    Ok(marks)
 }

@@ -12,7 +12,7 @@ ghost use Rattle.ix_holders.specs.Marks.{MarksAt};
 use crate::counted::counted;
 use crate::marks::first_of_all;
 use ix_device::Device;
-use ix_ends::Ends;
+use ix_ends::{Ends, graph_has_constants, graph_has_nodes};
 use ix_graph::NodeGraph;
 use ix_legal::Level;
 use ix_num::Memory;
@@ -81,6 +81,9 @@ impl Holders {
             Ok(marks) => marks,
             Err(_) => return Err(SharingFault::Memory),
         };
+        // The graph tells the constants of the record.
+        graph_has_nodes();
+        graph_has_constants();
         match first_of_all(device, graph, phys, ends, &counted, &mut marks) {
             Some((net, segment)) => Err(SharingFault::Shared(net, segment)),
             None => Ok(Holders { marks }),

@@ -1,17 +1,17 @@
 //! Marks of resources, by number: the first net that has each as an end.
 
-ghost use Rattle.std.specs.Prelude.{◌≡◌, ◌↔◌, ◌<◌, ◌^◌, ℕ, suc, length, slice_get, Some, true};
+ghost use Rattle.std.specs.Prelude.{◌≡◌, ◌↔◌, ◌<◌, ◌-◌, ◌^◌, ℕ, suc, length, slice_get, Some, true};
 ghost use Rattle.ix_num.specs.declared.resource.Res.{Res};
 ghost use Rattle.ix_rec.specs.declared.phys.Phys.{Phys as PhysSeen};
 ghost use Rattle.ix_rec.specs.declared.phys.PhysNet.{PhysNet as NetSeen};
 ghost use Rattle.ix_rec.specs.declared.phys.Segment.{Segment as SegmentSeen};
-ghost use Rattle.ix_graph.specs.Graph.{graph_of};
 ghost use Rattle.ix_legal.specs.declared.level.Level.{Level as LevelSeen};
 ghost use Rattle.ix_legal.specs.Sharing.{SharesNothing};
 ghost use Rattle.ix_legal.specs.Legal.{IsSmall};
 ghost use Rattle.ix_ends.specs.Ends.{AreEnds, IsNumbered};
 ghost use Rattle.ix_holders.specs.Marks.{IsMarked, MarksAt, IsHere, AreCounted, IsOwnConstant};
-ghost use Rattle.ix_holders.specs.Marks.{IsFirstInNet, IsFirstOfAll};
+ghost use Rattle.ix_holders.specs.Marks.{IsFirstInNet, IsFirstOfAll, KnowsConstants};
+ghost use Rattle.ix_holders.specs.Marks.{MarksAfter};
 
 use ix_device::Device;
 use ix_ends::{Ends, Pair};
@@ -36,7 +36,7 @@ fn mark(marks: &mut [u32], number: u32, net: u32) -> u32
 
 // Whether a net of this type may have the resource of this number, by its constant.
 fn is_own_constant(device: &Device, graph: &NodeGraph, ends: &Ends, number: u32, ty: NetType) -> bool
-    requires graph { graph.now ≡ graph_of device.now }
+    requires graph { KnowsConstants device.now graph.now ends.now }
     requires ends { (phys : PhysSeen) × AreEnds device.now phys ends.now }
     ensures { (r : Res) → IsNumbered device.now ends.now r number
         → (result ≡ true) ↔ IsOwnConstant device.now ty r }
@@ -63,7 +63,7 @@ fn may_have(
     is_first: bool,
     ty: NetType,
 ) -> bool
-    requires graph { graph.now ≡ graph_of device.now }
+    requires graph { KnowsConstants device.now graph.now ends.now }
     requires ends { (phys : PhysSeen) × AreEnds device.now phys ends.now }
     requires number { number < length counted.now }
     ensures { (r : Res) → IsNumbered device.now ends.now r number
@@ -84,7 +84,7 @@ fn shares_nothing(
     net: u32,
     ty: NetType,
 ) -> bool
-    requires graph { graph.now ≡ graph_of device.now }
+    requires graph { KnowsConstants device.now graph.now ends.now }
     requires ends { (phys : PhysSeen) × AreEnds device.now phys ends.now }
     requires from { pair.from < length marks.old }
     requires to { pair.to < length marks.old }
@@ -117,14 +117,15 @@ fn first_in_net(
     marks: &mut [u32],
     net: u32,
 ) -> Option<u32>
-    requires graph { graph.now ≡ graph_of device.now }
+    requires graph { KnowsConstants device.now graph.now ends.now }
     requires ends { AreEnds device.now phys.now ends.now }
     requires small { IsSmall phys.now }
     requires counted { length counted.now ≡ ends.now.count }
     requires net { net < length phys.now.nets }
     requires marks { MarksAt device.now ends.now phys.now net 0 marks.old }
-    ensures { (level : LevelSeen) → AreCounted level device.now phys.now ends.now counted.now
-        → IsFirstInNet level device.now ends.now phys.now net marks.new result }
+    ensures marks { MarksAfter device.now ends.now phys.now (suc net) marks.new result }
+    ensures first { (level : LevelSeen) → AreCounted level device.now phys.now ends.now counted.now
+        → IsFirstInNet level device.now phys.now net result }
 {
     let ty = phys.nets.at(net as usize).ty;
     let row = ends.row(net);
@@ -146,13 +147,15 @@ pub fn first_of_all(
     counted: &[bool],
     marks: &mut [u32],
 ) -> Option<(u32, u32)>
-    requires graph { graph.now ≡ graph_of device.now }
+    requires graph { KnowsConstants device.now graph.now ends.now }
     requires ends { AreEnds device.now phys.now ends.now }
     requires small { IsSmall phys.now }
     requires counted { length counted.now ≡ ends.now.count }
     requires marks { MarksAt device.now ends.now phys.now 0 0 marks.old }
-    ensures { (level : LevelSeen) → AreCounted level device.now phys.now ends.now counted.now
-        → IsFirstOfAll level device.now ends.now phys.now marks.new result }
+    ensures marks { MarksAfter device.now ends.now phys.now (length phys.now.nets) marks.new
+        result }
+    ensures first { (level : LevelSeen) → AreCounted level device.now phys.now ends.now counted.now
+        → IsFirstOfAll level device.now phys.now result }
 {
     for net in 0..phys.nets.len() {
         let net = net as u32;

@@ -1,0 +1,5 @@
+pub mod Slashes
+pub mod Turns
+pub mod Numbers
+pub mod Named
+pub mod Told

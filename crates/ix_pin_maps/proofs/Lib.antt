@@ -1,0 +1,4 @@
+pub mod InputLemmas
+pub mod Admission
+pub mod Fitting
+pub mod Walk

@@ -1,0 +1,4 @@
+pub mod Elements
+pub mod Sites
+pub mod Holding
+pub mod Functions

@@ -44,33 +44,33 @@ use Rattle.ix_placed_luts.proofs.Sites.{lut_bel_there, shape_there, lines_there,
 -- The shape of an element has the BEL as the definition sees it.
 module _ (rec : DeviceRec) (site bel t b element place : ℕ) (lut_bel : LutBel)
     (shape : ShapeSeen) (is : IsInSite rec site bel t b element place lut_bel shape) where
-  abbrev in_it : IsInType rec is.ty b element place lut_bel shape
+  abbrev pub in_it : IsInType rec is.ty b element place lut_bel shape
   in_it = is.in_type_is
 
-  abbrev all_lines : List ℕ
+  abbrev pub all_lines : List ℕ
   all_lines = lines_of is.ty in_it.e
 
-  abbrev as_seen : BelSeen
+  abbrev pub as_seen : BelSeen
   as_seen = bel_with is.ty all_lines lut_bel
 
-  seen_there : slice_get shape.bels place ≡ Some as_seen
+  pub seen_there : slice_get shape.bels place ≡ Some as_seen
   seen_there = ap (λ (s : ShapeSeen). slice_get s.bels place) (sym in_it.shape_is)
       ∙ slice_get-map (bel_with is.ty all_lines) in_it.e.bels place
       ∙ ap (option_map (bel_with is.ty all_lines)) in_it.lut_bel_is
 
-  own_names : AllDiffer lut_bel.input_pins
+  pub own_names : AllDiffer lut_bel.input_pins
   own_names = names_differ is.ty in_it.e in_it.usable place lut_bel in_it.lut_bel_is
 
-  counted : length as_seen.lines ≡ length lut_bel.input_pins
+  pub counted : length as_seen.lines ≡ length lut_bel.input_pins
   counted = inputs_counted is.ty in_it.e in_it.usable place lut_bel in_it.lut_bel_is
 
-  input_of : (j line : ℕ) → slice_get as_seen.lines j ≡ Some line
+  pub input_of : (j line : ℕ) → slice_get as_seen.lines j ≡ Some line
       → IsInput is.ty in_it.e lut_bel j line
   input_of j line at =
       input_at is.ty in_it.e in_it.usable place lut_bel in_it.lut_bel_is j line at
 
   -- the places of a LUT's inputs are places of the BEL's
-  places_there : (lut : LutCell) (placement : CellPlacement) (places : List ℕ)
+  pub places_there : (lut : LutCell) (placement : CellPlacement) (places : List ℕ)
       → MapsInputs lut lut_bel placement places → ArePlaces (length as_seen.lines) places
   places_there lut placement places maps = record {
     within = λ i less.
@@ -96,7 +96,7 @@ same_record x y low lines places = ap (λ l. made l x.lines x.places) low
 
 module _ (rec : DeviceRec) (placement : CellPlacement) (lut : LutCell) (element place : ℕ)
     (on : LutPlace) (is : IsLutOn rec placement lut element place on) where
-  found : (t b : ℕ) × IsInSite rec placement.site placement.bel t b element place is.bel is.shape
+  pub found : (t b : ℕ) × IsInSite rec placement.site placement.bel t b element place is.bel is.shape
   found = in_site_is rec placement.site placement.bel element place is.bel is.shape is.is_in
       is.bel_is is.shape_is
 
@@ -155,7 +155,7 @@ module _ (lut : LutPlace) (one other : Held) (alike : (j : ℕ) → j < length l
     gives_too bits table gives v agrees = gives v (agrees_too v agrees)
 
 -- without a function there is none
-not_both : (lut : LutPlace) (held : Held) (bits table : ℕ) → HasNoFunction lut held bits
+pub not_both : (lut : LutPlace) (held : Held) (bits table : ℕ) → HasNoFunction lut held bits
     → GivesFunction lut held bits table → ⊥
 not_both lut held bits table none gives =
     let e : 0 ≡ 1 = sym none.zero ∙ gives none.v none.v_agrees
@@ -210,7 +210,7 @@ module _ (rec : DeviceRec) (phys : Phys) (placement : CellPlacement) (law : Plac
     (lut : LutCell) (element place : ℕ) (on : LutPlace)
     (is : IsLutOn rec placement lut element place on) (held : Held)
     (are_held : AreHeld rec phys.nets placement.site element on held) where
-  gives_here : GivesFunction on held bits function
+  pub gives_here : GivesFunction on held bits function
   gives_here =
       let on_is = same_on rec placement law lut has.lut element has.element place has.place on
       has.on is has.is_on in

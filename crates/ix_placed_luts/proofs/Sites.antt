@@ -47,7 +47,7 @@ pub record IsInSite (rec : DeviceRec) (site bel t b element place : ℕ) (lut_be
 
 -- Of a site type.
 module _ (rec : DeviceRec) (ty : SiteType) (b element place : ℕ) where
-  the_lut_bel : (at : ℕ × ℕ) → element_of_bel rec b ty ≡ Some at
+  pub the_lut_bel : (at : ℕ × ℕ) → element_of_bel rec b ty ≡ Some at
       → lut_bel_in rec b ty ≡ option_and_then (λ (e : LutElement). slice_get e.bels at.1)
       (slice_get (elements_of rec ty) at.0)
   the_lut_bel at is = ap (option_and_then (λ (at : ℕ × ℕ). option_and_then (λ (e : LutElement).

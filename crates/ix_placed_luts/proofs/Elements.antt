@@ -1,10 +1,10 @@
 -- The inputs of a BEL of a usable element, and the element's lines.
-use Rattle.std.proofs.Common.{◌≡◌, ◌<◌, ◌∙◌, refl, ap, sym, subst, ℕ, zero, suc, List, [], ◌∷◌}
-use Rattle.std.proofs.Common.{◌++◌, ◌+◌, cond, length, map, slice_get, Option, Some, None, is_some, Bool}
+use Rattle.std.proofs.Common.{◌≡◌, ◌<◌, ◌∙◌, refl, ap, sym, ℕ, zero, suc, List, [], ◌∷◌}
+use Rattle.std.proofs.Common.{◌++◌, ◌+◌, cond, length, slice_get, Option, Some, None, is_some, Bool}
 use Rattle.std.proofs.Common.{true, false, true≢false, ◌&&◌, ◌||◌, not, nat_eq, nat_le, arith}
-use Rattle.std.proofs.Common.{if◌then◌else◌, option_map, option_and_then, inl, inr}
+use Rattle.std.proofs.Common.{option_map, option_and_then}
 use Rattle.std.specs.List.{list_all, list_any, flat_map, position_or_len}
-use Rattle.std.proofs.lemmas.Bool.{eqb-true, eq-eqb, cases_lt}
+use Rattle.std.proofs.lemmas.Bool.{eqb-true, eq-eqb}
 use Rattle.std.proofs.lemmas.List.{length-map}
 use Rattle.std.proofs.lemmas.Option.{none-some, same_Some, get_or_from_slice_get, slice_get-map}
 use Rattle.std.proofs.lemmas.Option.{slice_get_within}
@@ -106,8 +106,11 @@ in_all : {A : Type 0} (f : A → List ℕ) (xs : List A) (i : ℕ) (x : A) (j y 
     → slice_get xs i ≡ Some x → slice_get (f x) j ≡ Some y
     → (k : ℕ) × (slice_get (flat_map f xs) k ≡ Some y)
 in_all f [] i x j y at_x at_y = absurd (none-some x at_x)
-in_all f (z ∷ zs) zero x j y at_x at_y = (j, before_all (f z) (flat_map f zs) j y
-    (ap (λ w. slice_get (f w) j) (same_Some z x at_x) ∙ at_y))
+in_all f (z ∷ zs) zero x j y at_x at_y = (
+  j,
+  before_all (f z) (flat_map f zs) j y
+      (ap (λ w. slice_get (f w) j) (same_Some z x at_x) ∙ at_y),
+)
 in_all f (z ∷ zs) (suc i) x j y at_x at_y = let k = in_all f zs i x j y at_x at_y in
     after_all (f z) (flat_map f zs) k.0 y k.1
 
@@ -187,8 +190,11 @@ module _ (ty : SiteType) (e : LutElement) (usable : is_usable ty e ≡ true) (pl
       → IsInput ty e bel j line
   input_at j line is =
       let counted = inputs_counted in
-      let name = there_is bel.input_pins j (omega (arith, counted,
-      slice_get_within (bel_with ty (lines_of ty e) bel).lines j line is)) in
+      let name = there_is bel.input_pins j (omega (
+        arith,
+        counted,
+        slice_get_within (bel_with ty (lines_of ty e) bel).lines j line is,
+      )) in
       let wire = wire_at j name.0 name.1 in
       let all = in_all (λ l. present (input_lines ty l)) e.bels place bel j wire.0 at wire.2 in
       let same : line_number (lines_of ty e) wire.0 ≡ line =

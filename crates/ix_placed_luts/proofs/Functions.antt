@@ -1,10 +1,10 @@
 -- The function of a placed LUT.
-use Rattle.std.proofs.Common.{◌≡◌, ◌<◌, ◌≤◌, ◌+◌, ◌∙◌, refl, ap, sym, subst, ℕ, zero, suc, List, []}
-use Rattle.std.proofs.Common.{◌∷◌, length, map, take, slice_get, slice_index, Option, Some, None}
-use Rattle.std.proofs.Common.{option_map, option_and_then, arith, IfSome}
+use Rattle.std.proofs.Common.{◌≡◌, ◌<◌, ◌∙◌, ap, sym, subst, ℕ, List}
+use Rattle.std.proofs.Common.{length, slice_get, slice_index, Some}
+use Rattle.std.proofs.Common.{option_map, arith}
 use Rattle.std.specs.List.{Contains}
 use Rattle.std.specs.Int.{bit_at}
-use Rattle.std.proofs.lemmas.Option.{none-some, same_Some, get_or_from_slice_get, slice_get-map}
+use Rattle.std.proofs.lemmas.Option.{same_Some, get_or_from_slice_get, slice_get-map}
 use Rattle.std.proofs.lemmas.Option.{slice_get_within}
 use Rattle.ix_num.specs.declared.resource.Res.TheVariants.{Wire}
 use Rattle.ix_rec.specs.declared.device.DeviceRec.{DeviceRec}
@@ -13,33 +13,22 @@ use Rattle.ix_rec.specs.declared.device.LutCell.{LutCell}
 use Rattle.ix_rec.specs.declared.phys.CellPlacement.{CellPlacement}
 use Rattle.ix_rec.specs.declared.phys.Phys.{Phys}
 use Rattle.ix_rec.specs.declared.phys.PhysNet.{PhysNet}
-use Rattle.ix_device.specs.Elements.{element_of_bel}
-use Rattle.ix_device.specs.Lookups.{type_of_site, in_type, bel_in}
-use Rattle.ix_device.specs.Shapes.{BelSeen, ShapeSeen, bel_seen, bel_with, lines_of, shape_in}
-use Rattle.ix_device.specs.Shapes.{shape_seen}
+use Rattle.ix_device.specs.Shapes.{BelSeen, ShapeSeen, bel_with, lines_of}
 use Rattle.ix_device.proofs.NumberedLemmas.{there_is}
-use Rattle.ix_lut.specs.Tables.{ArePlaces, AllDiffer, IsTable, TableBits, spelled}
-use Rattle.ix_lut.specs.Places.{LutPlace, Held, ElementBits, Agrees, Allows, GivesFunction}
+use Rattle.ix_lut.specs.Tables.{ArePlaces, AllDiffer, IsTable}
+use Rattle.ix_lut.specs.Places.{LutPlace, Held, Agrees, Allows, GivesFunction}
 use Rattle.ix_lut.specs.Places.{HasNoFunction}
-use Rattle.ix_lut.specs.Shapes.{bel_at, input_lines, lut_on, held_by, IsUsableBel}
-use Rattle.ix_lut.specs.declared.shape.BelShape.{BelShape}
-use Rattle.ix_lut.specs.declared.shape.ElementShape.{ElementShape}
 use Rattle.ix_lut.specs.declared.shape.Tie.{Tie}
 use Rattle.ix_lut.proofs.OneFunction.{one_function}
 use Rattle.ix_legal.specs.LutTables.{IsLutOn, IsHeld, AreHeld, IsFunction}
 use Rattle.ix_legal.specs.Placements.{MapsInputs}
 use Rattle.ix_legal.specs.Sites.{shape_at}
-use Rattle.ix_lut_places.specs.Places.{lut_bel_in}
 use Rattle.ix_pin_maps.specs.Laws.{PlacesAreOne}
-use Rattle.ix_ends.proofs.Items.{mapped, chained}
 use Rattle.ix_placed_luts.specs.Laws.{FunctionIsOne}
-use Rattle.ix_placed_luts.specs.Placed.{IsPlaced}
-use Rattle.ix_placed_luts.specs.Tied.{AreTied, wire_of_input}
 use Rattle.ix_placed_luts.proofs.Elements.{IsInput, input_at, inputs_counted, names_differ}
-use Rattle.ix_placed_luts.proofs.Elements.{wire_named}
 use Rattle.ix_placed_luts.proofs.Holding.{one_tie}
-use Rattle.ix_placed_luts.proofs.Sites.{IsInSite, IsInType, in_site_is, typed, element_there}
-use Rattle.ix_placed_luts.proofs.Sites.{lut_bel_there, shape_there, lines_there, wire_there}
+use Rattle.ix_placed_luts.proofs.Sites.{IsInSite, IsInType, in_site_is}
+use Rattle.ix_placed_luts.proofs.Sites.{lines_there}
 
 -- The shape of an element has the BEL as the definition sees it.
 module _ (rec : DeviceRec) (site bel t b element place : ℕ) (lut_bel : LutBel)
@@ -101,43 +90,43 @@ module _ (rec : DeviceRec) (placement : CellPlacement) (lut : LutCell) (element 
       is.bel_is is.shape_is
 
   module _ (t b : ℕ) (at : IsInSite rec placement.site placement.bel t b element place is.bel is.shape)
-      where
-    lines_seen : on.lines ≡ (as_seen rec placement.site placement.bel t b element place is.bel
-        is.shape at).lines
-    lines_seen = is.lines ∙ ap (λ (s : BelSeen). s.lines) (same_Some is.seen _
-        (sym is.seen_is ∙ seen_there rec placement.site placement.bel t b element place is.bel
-        is.shape at))
+    where
+      lines_seen : on.lines ≡ (as_seen rec placement.site placement.bel t b element place is.bel
+          is.shape at).lines
+      lines_seen = is.lines ∙ ap (λ (s : BelSeen). s.lines) (same_Some is.seen _
+          (sym is.seen_is ∙ seen_there rec placement.site placement.bel t b element place is.bel
+          is.shape at))
 
-    places_fit : ArePlaces (length on.lines) on.places
-    places_fit = subst (λ (l : List ℕ). ArePlaces (length l) on.places) (sym lines_seen)
-        (places_there rec placement.site placement.bel t b element place is.bel is.shape at lut
-        placement on.places is.inputs)
+      places_fit : ArePlaces (length on.lines) on.places
+      places_fit = subst (λ (l : List ℕ). ArePlaces (length l) on.places) (sym lines_seen)
+          (places_there rec placement.site placement.bel t b element place is.bel is.shape at lut
+          placement on.places is.inputs)
 
-    -- what is held on the lines of unused inputs is determined
-    module _ (nets : List PhysNet) (one other : Held)
-        (held : AreHeld rec nets placement.site element on one)
-        (also : AreHeld rec nets placement.site element on other) where
-      held_alike : (j : ℕ) → j < length on.lines → (Contains on.places j → ⊥)
-          → one (slice_index on.lines j) ≡ other (slice_index on.lines j)
-      held_alike j below unused =
-          let line = there_is on.lines j below in
-          let same : slice_index on.lines j ≡ line.0 =
-          get_or_from_slice_get on.lines j line.0 0 line.1 in
-          let input = input_of rec placement.site placement.bel t b element place is.bel is.shape
-          at j line.0 (ap (λ (l : List ℕ). slice_get l j) (sym lines_seen) ∙ line.1) in
-          let lines = lines_there rec placement.site placement.bel t b element place is.bel
-          is.shape at in
-          let wires = same_Some held.wires _ (sym held.wires_are ∙ lines) in
-          let more_wires = same_Some also.wires _ (sym also.wires_are ∙ lines) in
-          let sites : also.number ≡ held.number =
-          same_Some also.number held.number (sym also.site_is ∙ held.site_is) in
-          let first = held.each j line.0 input.wire unused line.1
-          (ap (λ (l : List ℕ). slice_get l line.0) wires ∙ input.line_is) in
-          let second = also.each j line.0 input.wire unused line.1
-          (ap (λ (l : List ℕ). slice_get l line.0) more_wires ∙ input.line_is) in
-          ap one same ∙ one_tie rec nets (Wire held.number input.wire) (one line.0) (other line.0)
-          first (subst (λ n. IsHeld rec nets (Wire n input.wire) (other line.0)) sites second)
-          ∙ ap other (sym same)
+      -- what is held on the lines of unused inputs is determined
+      module _ (nets : List PhysNet) (one other : Held)
+          (held : AreHeld rec nets placement.site element on one)
+          (also : AreHeld rec nets placement.site element on other) where
+        held_alike : (j : ℕ) → j < length on.lines → (Contains on.places j → ⊥)
+            → one (slice_index on.lines j) ≡ other (slice_index on.lines j)
+        held_alike j below unused =
+            let line = there_is on.lines j below in
+            let same : slice_index on.lines j ≡ line.0 =
+            get_or_from_slice_get on.lines j line.0 0 line.1 in
+            let input = input_of rec placement.site placement.bel t b element place is.bel is.shape
+            at j line.0 (ap (λ (l : List ℕ). slice_get l j) (sym lines_seen) ∙ line.1) in
+            let lines = lines_there rec placement.site placement.bel t b element place is.bel
+            is.shape at in
+            let wires = same_Some held.wires _ (sym held.wires_are ∙ lines) in
+            let more_wires = same_Some also.wires _ (sym also.wires_are ∙ lines) in
+            let sites : also.number ≡ held.number =
+            same_Some also.number held.number (sym also.site_is ∙ held.site_is) in
+            let first = held.each j line.0 input.wire unused line.1
+            (ap (λ (l : List ℕ). slice_get l line.0) wires ∙ input.line_is) in
+            let second = also.each j line.0 input.wire unused line.1
+            (ap (λ (l : List ℕ). slice_get l line.0) more_wires ∙ input.line_is) in
+            ap one same ∙ one_tie rec nets (Wire held.number input.wire) (one line.0) (other line.0)
+            first (subst (λ n. IsHeld rec nets (Wire n input.wire) (other line.0)) sites second)
+            ∙ ap other (sym same)
 
 -- Functions look at the lines of unused inputs alone.
 module _ (lut : LutPlace) (one other : Held) (alike : (j : ℕ) → j < length lut.lines

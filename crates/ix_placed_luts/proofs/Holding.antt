@@ -1,13 +1,12 @@
 -- What holds a wire of a site.
-use Rattle.std.proofs.Common.{◌≡◌, ◌⊎◌, ◌<◌, ◌+◌, ◌∙◌, refl, ap, sym, subst, ℕ, zero, suc, arith, inl, inr}
+use Rattle.std.proofs.Common.{◌≡◌, ◌<◌, ◌+◌, ◌∙◌, refl, ap, sym, subst, ℕ, arith, inl, inr}
 use Rattle.std.proofs.Common.{List, length, slice_get, Option, Some, None, option_map}
 use Rattle.std.proofs.Common.{option_and_then, Bool, true, false, true≢false, IfSome}
-use Rattle.std.proofs.lemmas.List.{length-map}
 use Rattle.std.proofs.lemmas.Option.{none-some, same_Some, slice_get_within}
 use Rattle.ix_num.specs.declared.resource.NetRef.{NetRef}
 use Rattle.ix_num.specs.declared.resource.NetRef.TheVariants as holders
 use Rattle.ix_num.specs.declared.resource.Res.{Res}
-use Rattle.ix_num.specs.declared.resource.Res.TheVariants.{Node, Wire}
+use Rattle.ix_num.specs.declared.resource.Res.TheVariants.{Wire}
 use Rattle.ix_rec.specs.declared.device.DeviceRec.{DeviceRec}
 use Rattle.ix_rec.specs.declared.phys.Phys.{Phys}
 use Rattle.ix_rec.specs.declared.phys.PhysNet.{PhysNet}
@@ -31,7 +30,7 @@ use Rattle.ix_ends.specs.declared.pair.Pair.{Pair}
 use Rattle.ix_ends.specs.Ends.{EndsSeen, ResNumber, IsNumbered, AreEnds, HasNumbers, number_of}
 use Rattle.ix_ends.specs.Ends.{IsThere}
 use Rattle.ix_ends.proofs.Items.{mapped, chained}
-use Rattle.ix_holders.specs.Holders.{AreHolders, IsFirst, FirstHas}
+use Rattle.ix_holders.specs.Holders.{AreHolders, IsFirst}
 use Rattle.ix_placed_luts.specs.Tied.{tie_of_type, HaveOneHolder}
 
 -- What tells a tie from another.
@@ -164,7 +163,7 @@ module _ (rec : DeviceRec) (phys : Phys) (seen : EndsSeen) (are : AreEnds rec ph
 
     -- a wire that a net has
     module _ (one_holder : HaveOneHolder rec phys.nets) (n : NetNumber) (net : PhysNet)
-         (is : slice_get phys.nets n ≡ Some net) (has : HasEnd rec net here) where
+        (is : slice_get phys.nets n ≡ Some net) (has : HasEnd rec net here) where
       holder_is : (holder : NetRef) → Holds rec phys.nets here holder
           → as_holder phys.nets n net.ty ≡ holder
       holder_is holder h = one_holder site wire (as_holder phys.nets n net.ty) holder

@@ -1,6 +1,6 @@
 -- A placed LUT that was found by numbers, and its function.
-use Rattle.std.proofs.Common.{◌≡◌, ◌<◌, ◌≤◌, ◌∙◌, refl, ap, sym, subst, ℕ, zero, suc, List, [], ◌∷◌}
-use Rattle.std.proofs.Common.{length, map, take, slice_get, Option, Some, None, option_map}
+use Rattle.std.proofs.Common.{◌≡◌, ◌<◌, ◌∙◌, ap, sym, subst, ℕ, zero, suc, List, [], ◌∷◌}
+use Rattle.std.proofs.Common.{length, take, slice_get, Option, Some, None}
 use Rattle.std.proofs.Common.{option_and_then, IfSome, IfNone, arith}
 use Rattle.std.proofs.lemmas.Option.{none-some, same_Some, slice_get_within, slice_get-map}
 use Rattle.std.proofs.lemmas.Option.{get_or_from_slice_get}
@@ -24,8 +24,7 @@ use Rattle.ix_lut_places.specs.Places.{lut_bel_in}
 use Rattle.ix_pin_maps.specs.Laws.{PlacesAreOne}
 use Rattle.ix_ends.proofs.Items.{mapped, chained}
 use Rattle.ix_placed_luts.specs.Placed.{IsPlaced}
-use Rattle.ix_placed_luts.specs.Tied.{AreTied, wire_of_input}
-use Rattle.ix_placed_luts.proofs.Elements.{wire_named}
+use Rattle.ix_placed_luts.specs.Tied.{AreTied}
 use Rattle.ix_placed_luts.proofs.Sites.{IsInSite, typed, element_there, lut_bel_there, shape_there}
 use Rattle.ix_placed_luts.proofs.Sites.{lines_there, wire_there}
 use Rattle.ix_placed_luts.proofs.Functions.{as_seen, seen_there, own_names, counted, input_of}
@@ -56,7 +55,6 @@ module _ (rec : DeviceRec) (placement : CellPlacement) (site t b element place :
 
   pub names_apart : AllDiffer lut_bel.input_pins
   names_apart = own_names rec placement.site placement.bel t b element place lut_bel shape placed
-
 
 -- what is among the first of a list
 taken : {A : Type 0} (n : ℕ) (xs : List A) (k : ℕ) (x : A) → slice_get (take n xs) k ≡ Some x

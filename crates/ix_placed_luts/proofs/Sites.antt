@@ -1,5 +1,5 @@
 -- A BEL in an element of a site, by names and by numbers.
-use Rattle.std.proofs.Common.{◌≡◌, ◌<◌, ◌∙◌, refl, ap, sym, subst, ℕ, List, length, map, slice_get}
+use Rattle.std.proofs.Common.{◌≡◌, ◌<◌, ◌∙◌, refl, ap, sym, ℕ, List, length, slice_get}
 use Rattle.std.proofs.Common.{Option, Some, None, option_map, option_and_then, Bool, true, false}
 use Rattle.std.proofs.Common.{nat_eq, if◌then◌else◌}
 use Rattle.std.specs.List.{position, list_any}
@@ -12,7 +12,7 @@ use Rattle.ix_rec.specs.declared.device.LutBel.{LutBel}
 use Rattle.ix_rec.specs.declared.device.LutElement.{LutElement}
 use Rattle.ix_rec.specs.declared.device.SiteType.{SiteType}
 use Rattle.ix_device_rules.specs.Rules.{element_has}
-use Rattle.ix_device.specs.Lookups.{site_named, type_of_site, in_type, bel_in, bel_pin_in, wire_in}
+use Rattle.ix_device.specs.Lookups.{type_of_site, in_type, bel_in, bel_pin_in, wire_in}
 use Rattle.ix_device.specs.Lookups.{pin_of_bel}
 use Rattle.ix_device.specs.Elements.{elements_of, element_of_bel, is_usable, place_in}
 use Rattle.ix_device.specs.Elements.{place_in_element}
@@ -150,16 +150,19 @@ in_site_is rec site bel element place lut_bel shape at lut_bel_is shape_is =
     (element, place) at in
     let ty = chained (λ (u : SiteType). option_and_then (λ b. element_of_bel rec b u)
     (bel_in bel u)) (slice_get rec.site_type_list t.0) (element, place) t.2 in
-    let b = chained (λ b. element_of_bel rec b ty.0) (bel_in bel ty.0) (element, place) ty.2 in
-    (t.0, b.0, record {
-      type_is = t.1;
-      ty = ty.0;
-      ty_is = ty.1;
-      bel_is = b.1;
-      in_type_is = typed rec ty.0 b.0 element place lut_bel shape b.2
-          (sym (lut_bel_told rec site t.0 ty.0 t.1 ty.1 bel b.0 b.1) ∙ lut_bel_is)
-          (sym (told rec site t.0 ty.0 t.1 ty.1 (shape_in rec element)) ∙ shape_is);
-    })
+    let b = chained (λ b. element_of_bel rec b ty.0) (bel_in bel ty.0) (element, place) ty.2 in (
+      t.0,
+      b.0,
+      record {
+        type_is = t.1;
+        ty = ty.0;
+        ty_is = ty.1;
+        bel_is = b.1;
+        in_type_is = typed rec ty.0 b.0 element place lut_bel shape b.2
+            (sym (lut_bel_told rec site t.0 ty.0 t.1 ty.1 bel b.0 b.1) ∙ lut_bel_is)
+            (sym (told rec site t.0 ty.0 t.1 ty.1 (shape_in rec element)) ∙ shape_is);
+      },
+    )
 
 -- and back
 module _ (rec : DeviceRec) (site bel t b element place : ℕ) (lut_bel : LutBel)
@@ -193,8 +196,7 @@ place_below p xs n h = let at = position-at p xs n h in slice_get_within xs n at
 pub wire_in_site : (rec : DeviceRec) (site t : ℕ) → type_of_site rec site ≡ Some t
     → (pin wire : ℕ) → in_type (wire_in pin) rec t ≡ Some wire → IsThere rec (Wire site wire)
 wire_in_site rec site t type_is pin wire is =
-    let ty = chained (wire_in pin) (slice_get rec.site_type_list t) wire is in
-    (
+    let ty = chained (wire_in pin) (slice_get rec.site_type_list t) wire is in (
       length ty.0.site_wires,
       ap (λ o. option_map (λ (u : SiteType). length u.site_wires)
           (option_and_then (slice_get rec.site_type_list) o)) type_is

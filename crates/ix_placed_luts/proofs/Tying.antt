@@ -1,16 +1,16 @@
 -- What holds the lines of a BEL, input by input.
-use Rattle.std.proofs.Common.{◌≡◌, ◌≢◌, ◌<◌, ◌≤◌, ◌+◌, ◌∙◌, refl, ap, sym, subst, ℕ, suc, List}
-use Rattle.std.proofs.Common.{length, set, slice_get, slice_index, Some, None, arith, inl, inr}
-use Rattle.std.proofs.Common.{get_or, take, min}
+use Rattle.std.proofs.Common.{◌≡◌, ◌≢◌, ◌<◌, ◌≤◌, ◌+◌, ◌∙◌, ap, sym, subst, ℕ, List}
+use Rattle.std.proofs.Common.{length, set, slice_get, slice_index, Some, arith, inl, inr}
+use Rattle.std.proofs.Common.{take, min}
 use Rattle.std.proofs.lemmas.Bool.{cases_lt}
 use Rattle.std.proofs.lemmas.List.{get_or-set_same, get_or-set_other, get_or-take}
 use Rattle.std.proofs.lemmas.List.{length-take}
 use Rattle.std.proofs.Math.Nat.{min-le_left}
-use Rattle.std.proofs.lemmas.Option.{none-some, same_Some, slice_get_within, get_or_from_slice_get}
+use Rattle.std.proofs.lemmas.Option.{same_Some, slice_get_within, get_or_from_slice_get}
 use Rattle.std.proofs.lemmas.Option.{slice_get-get_or}
 use Rattle.ix_rec.specs.declared.device.DeviceRec.{DeviceRec}
 use Rattle.ix_rec.specs.declared.phys.PhysNet.{PhysNet}
-use Rattle.ix_lut.specs.Shapes.{held_by, input_lines, IsUsableBel}
+use Rattle.ix_lut.specs.Shapes.{held_by, input_lines}
 use Rattle.ix_lut.specs.Tables.{AllDiffer}
 use Rattle.ix_lut.specs.declared.shape.BelShape.{BelShape}
 use Rattle.ix_lut.specs.declared.shape.Tie.{Tie}

@@ -1,5 +1,5 @@
 -- A placed LUT, by number.
-use Rattle.std.specs.Prelude.{◌≡◌, ◌<◌, ℕ, List, Some}
+use Rattle.std.specs.Prelude.{◌≡◌, ℕ, List, Some}
 use Rattle.ix_num.specs.Numbers.{SiteNumber, SiteTypeNumber, BelNumber}
 use Rattle.ix_rec.specs.declared.device.DeviceRec.{DeviceRec}
 use Rattle.ix_rec.specs.declared.device.LutBel.{LutBel}

@@ -1,5 +1,5 @@
 -- What holds the lines of a BEL.
-use Rattle.std.specs.Prelude.{◌≡◌, ◌<◌, ℕ, List, slice_get, slice_index_or, Option, Some, IfSome}
+use Rattle.std.specs.Prelude.{◌≡◌, ◌<◌, ℕ, List, slice_get, Option, Some, IfSome}
 use Rattle.std.specs.Prelude.{option_and_then}
 use Rattle.ix_num.specs.Numbers.{NameNumber, SiteNumber, SiteTypeNumber, BelNumber, SiteWireNumber}
 use Rattle.ix_num.specs.declared.resource.NetRef.{NetRef}

@@ -1,9 +1,9 @@
 //! The functions of placed LUTs.
 #![tactic(auto)]
 
-mod placed;
 mod function;
 mod laws;
+mod placed;
 mod ties;
 
 pub use function::function_of;

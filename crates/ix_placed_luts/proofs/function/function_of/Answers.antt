@@ -1,4 +1,4 @@
-use Rattle.std.proofs.Common.{◌∙◌, sym, subst, IfNone, ℕ, List}
+use Rattle.std.proofs.Common.{sym, subst, IfNone, ℕ, List}
 use Rattle.ix_legal.specs.LutTables.{IsFunction}
 use Rattle.ix_placed_luts.specs.Placed.{IsPlaced}
 use Rattle.ix_placed_luts.proofs.Holding.{have_one_holder}

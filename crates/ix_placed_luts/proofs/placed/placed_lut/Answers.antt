@@ -1,4 +1,4 @@
-use Rattle.std.proofs.Common.{◌∙◌, ap, sym, option_map}
+use Rattle.std.proofs.Common.{sym}
 use Rattle.ix_device.specs.Shapes.{shape_seen}
 use Rattle.ix_placed_luts.proofs.Placing.{names_apart}
 use Rattle.ix_placed_luts.proofs.placed.placed_lut.Goals as goal

@@ -1,4 +1,4 @@
-use Rattle.std.proofs.Common.{◌∙◌, ap, sym, subst}
+use Rattle.std.proofs.Common.{sym, subst}
 use Rattle.ix_num.specs.declared.resource.Res.TheVariants.{Wire}
 use Rattle.ix_legal.specs.LutTables.{IsHeld}
 use Rattle.ix_placed_luts.proofs.Holding.{number_within, number_listed, net_listed}

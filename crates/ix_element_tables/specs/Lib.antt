@@ -1,0 +1,5 @@
+-- What public contracts say.
+pub mod Noted
+-- For private contracts and proofs.
+pub mod Kept
+pub mod Least

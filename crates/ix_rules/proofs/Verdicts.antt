@@ -20,8 +20,10 @@ use Rattle.ix_legal.specs.Placements.{InstanceFits, PinMapFits, PlacementFits}
 use Rattle.ix_legal.specs.Segments.{NetNumber, SegmentNumber, segment_at}
 use Rattle.ix_legal.specs.Sharing.{InSourceTree, SharesNothing, SiteInUse}
 use Rattle.ix_legal.specs.Trees.{EntersAlone, HasSource, LeavesParent, RootFits}
-use Rattle.ix_legal.specs.Spots.{Spot, InstanceAt, PlacementAt, NetAt, SegmentAt, PropertyAt}
-use Rattle.ix_legal.specs.Spots.{ElementAt, AskedOf, Everywhere, IsFirstBreak, OfNets}
+use Rattle.ix_legal.specs.declared.spot.Spot.{Spot}
+use Rattle.ix_legal.specs.declared.spot.Spot.TheVariants.{InstanceAt, PlacementAt, NetAt}
+use Rattle.ix_legal.specs.declared.spot.Spot.TheVariants.{SegmentAt, PropertyAt, ElementAt}
+use Rattle.ix_legal.specs.Spots.{AskedOf, Everywhere, IsFirstBreak, OfNets}
 use Rattle.ix_rules.specs.Stages.{IsBroken, IsInside, KeepsUpTo}
 
 -- a rule is told by its place among the rules

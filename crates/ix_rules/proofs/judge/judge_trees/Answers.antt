@@ -1,4 +1,4 @@
-use Rattle.std.proofs.Common.{◌≤◌, arith}
+use Rattle.std.proofs.Common.{arith}
 use Rattle.ix_rec.specs.declared.place.Rule.TheVariants.{L2}
 use Rattle.ix_rules.proofs.judge.judge_trees.Goals as goal
 

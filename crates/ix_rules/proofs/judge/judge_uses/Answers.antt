@@ -1,4 +1,4 @@
-use Rattle.std.proofs.Common.{◌≤◌, arith}
+use Rattle.std.proofs.Common.{arith}
 use Rattle.std.proofs.lemmas.Result.{err_from_is_err_and}
 use Rattle.ix_rec.specs.declared.place.Rule.TheVariants.{L1, L2, L7}
 use Rattle.ix_rules.proofs.judge.judge_uses.Goals as goal

@@ -30,14 +30,16 @@ module _ (rec : DeviceRec) (instances : List SiteInstance) where
       → slice_get instances i ≡ Some instance → i < j
       → elements_before rec instances i + elements_of_instance rec instance
       ≤ elements_before rec instances j
-  elements_after i j instance at lt = counted_before (elements_of_instance rec) instances i j instance at lt
+  elements_after i j instance at lt =
+      counted_before (elements_of_instance rec) instances i j instance at lt
 
   -- with one instance more
   one_more_before : (i : ℕ) (instance : SiteInstance) → slice_get instances i ≡ Some instance
       → elements_before rec instances (i + 1)
       ≡ elements_before rec instances i + elements_of_instance rec instance
   one_more_before i instance at =
-      sum_by_more (elements_of_instance rec) instances i instance (slice_get_within instances i instance at)
+      sum_by_more (elements_of_instance rec) instances i instance
+      (slice_get_within instances i instance at)
       ∙ ap (λ x. elements_before rec instances i + elements_of_instance rec x)
       (get_or_from_slice_get instances i instance instance at)
 

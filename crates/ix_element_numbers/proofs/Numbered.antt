@@ -216,7 +216,8 @@ module _ (rec : DeviceRec) (phys : Phys) (placed : Everywhere (IsPlaced rec phys
           record {
             placement = placement;
             placement_is = at;
-            number = numbered instance base p.0 p.1 found (base_read instance base found read) is_in;
+            number = numbered instance base p.0 p.1 found
+                (base_read instance base found read) is_in;
             place = p.1;
             is_in = is_in;
           }
@@ -230,5 +231,6 @@ module _ (rec : DeviceRec) (phys : Phys) (placed : Everywhere (IsPlaced rec phys
           → base ≡ get_or seen.bases.items instance base → base + p.0 < seen.count
       in_count s t b instance base p site_is type_is bel_is is found read =
           let its = in_element s t b instance base p site_is type_is bel_is is found read in
-          let within = number_within rec phys instance its.placement.site p.0 (base + p.0) its.number in
+          let within = number_within rec phys instance its.placement.site p.0 (base + p.0)
+          its.number in
           let all = are.bases.count_is in omega (arith, within, all)

@@ -44,8 +44,8 @@ fn keeps_table(
     requires noted { AreNoted on.now.names.now on.now.device.now on.now.phys.now
         on.now.numbers.now (length on.now.phys.now.placements) tables.now }
     requires inside { placement < length on.now.phys.now.placements }
-    requires element { IsInElement on.now.device.now on.now.phys.now on.now.numbers.now placement
-        at }
+    requires element { IsInElement on.now.device.now on.now.phys.now placement at }
+    requires within { at.number < on.now.numbers.now.count }
     ensures { Decides result (KeepsTableAt on.now.names.now on.now.device.now on.now.phys.now
         placement at.element) }
 {

@@ -9,54 +9,17 @@ rules; phys_rules.py judges each netlist too, and both have to agree.
 """
 import copy
 import sys
+from difflib import SequenceMatcher
 from pathlib import Path
 
 import message
 import phys_rules
+from phys_texts import *
 from stored import write_or_check
 
 TOP = Path(__file__).resolve().parent.parent
 SCHEMA = TOP / "examples" / "schema" / "phys.capnp"
 CASES = TOP / "crates" / "ix_rules_cases"
-SIGNAL, GND, VCC = 0, 1, 2
-
-
-# Netlists.
-
-
-def bel_pin(site, bel, pin, *below):
-    return {"kind": 0, "first": site, "second": bel, "third": pin, "branches": list(below)}
-
-
-def site_pin(site, pin, *below):
-    return {"kind": 1, "first": site, "second": pin, "third": 0, "branches": list(below)}
-
-
-def pip(tile, wire0, wire1, *below, forward=1):
-    names = {"first": tile, "second": wire0, "third": wire1}
-    return {"kind": 2, **names, "forward": forward, "branches": list(below)}
-
-
-def site_pip(site, bel, pin, *below):
-    return {"kind": 3, "first": site, "second": bel, "third": pin, "branches": list(below)}
-
-
-def net(name, *sources, stubs=(), ty=SIGNAL):
-    return {"name": name, "type": ty, "sources": list(sources), "stubs": list(stubs)}
-
-
-def cell(name, ty, site, bel, pins, bels=None):
-    pairs = [pin.split("=") for pin in pins.split()]
-    pin_map = [{"cellPin": a, "bel": bel, "belPin": b} for a, b in pairs]
-    return {"cellName": name, "type": ty, "site": site, "bel": bel, "pinMap": pin_map}
-
-
-def instances(**types):
-    return [{"site": site, "type": ty} for site, ty in types.items()]
-
-
-def tables(*entries):
-    return [{"key": key, "value": value} for key, value in entries]
 
 
 # On `slices`: two cells and a pad in the first tile, a LUT and a pad in the second, each net a tree that is whole. The
@@ -101,7 +64,7 @@ WHOLE = {
         ),
     ],
     "siteInsts": instances(S0="SLICE", P0="PAD", S1="SLICE", P1="PAD"),
-    "properties": tables(("TABLE/S0/0", "0000000000000024"), ("kept", ""), ("TABLE/S1/1", "0000000000000004")),
+    "properties": tables(("TABLE/S0/0", "0000000000000024"), ("kept", ""), ("TABLE/S1/1", "0000000000000050")),
 }
 ZERO, ONE, N0, N1, N2, N3 = range(6)
 
@@ -138,6 +101,20 @@ STUBS = {
     "siteInsts": instances(s0="SRC", s1="SRC", t0="SNK", t1="SNK"),
 }
 
+# On `grounds`: a sink in each tile, on gnd.
+GROUNDS = {
+    "part": "M7",
+    "placements": [cell(f"e{k}", "LOAD", f"t{k}", "IB", "I=I") for k in range(3)],
+    "physNets": [
+        net(
+            "GLOBAL_LOGIC0",
+            *(pip(f"M{k}", "G", "T0", site_pin(f"t{k}", "I", bel_pin(f"t{k}", "IB", "I"))) for k in range(3)),
+            ty=GND,
+        ),
+    ],
+    "siteInsts": instances(t0="SNK", t1="SNK", t2="SNK"),
+}
+
 # On `one_clb`: one LUT with both inputs on constants, without its table.
 LUT = {
     "part": "K",
@@ -158,149 +135,6 @@ LUT = {
 }
 
 
-# Changes of a netlist. Each is a function that changes the netlist that it is given.
-
-
-def at(path, value):
-    """Sets a field; the parts of its path are fields and numbers."""
-    *front, last = [int(it) if it.isdigit() else it for it in path.split("/")]
-
-    def change(netlist):
-        for part in front:
-            netlist = netlist[part]
-        netlist[last] = value
-
-    return change
-
-
-def add(path, *values):
-    """Adds to the end of a list."""
-
-    def change(netlist):
-        for part in path.split("/"):
-            netlist = netlist.setdefault(part, []) if isinstance(netlist, dict) else netlist[int(part)]
-        netlist += copy.deepcopy(values)
-
-    return change
-
-
-def drop(path):
-    *front, last = [int(it) if it.isdigit() else it for it in path.split("/")]
-
-    def change(netlist):
-        for part in front:
-            netlist = netlist[part]
-        del netlist[last]
-
-    return change
-
-
-def reverse(field):
-    return lambda netlist: netlist[field].reverse()
-
-
-def add_net(*args, **words):
-    return add("physNets", net(*args, **words))
-
-
-def first_net(*args, **words):
-    return lambda netlist: netlist["physNets"].insert(0, net(*args, **words))
-
-
-def rooted(which, *sources):
-    return at(f"physNets/{which}/sources", list(sources))
-
-
-def rename(which, name):
-    return at(f"physNets/{which}/name", name)
-
-
-def type_of(which, ty):
-    return at(f"physNets/{which}/type", ty)
-
-
-def add_table(key, value="0" * 16):
-    return add("properties", {"key": key, "value": value})
-
-
-def add_instance(site, ty="SLICE"):
-    return add("siteInsts", {"site": site, "type": ty})
-
-
-def add_cell(*args):
-    return add("placements", cell(*args))
-
-
-def of_cell(which, **fields):
-    return lambda netlist: netlist["placements"][which].update(fields)
-
-
-def of_pin(which, pin, **fields):
-    return lambda netlist: netlist["placements"][which]["pinMap"][pin].update(fields)
-
-
-def found(netlist, which, number):
-    """The list in which a segment of a net stands, and its place there."""
-    of_net = netlist["physNets"][which]
-    left = [(of_net["stubs"], i) for i in reversed(range(len(of_net["stubs"])))]
-    left += [(of_net["sources"], i) for i in reversed(range(len(of_net["sources"])))]
-    while True:
-        branches, i = left.pop()
-        if number == 0:
-            return branches, i
-        number -= 1
-        below = branches[i]["branches"]
-        left += [(below, j) for j in reversed(range(len(below)))]
-
-
-def below(which, number, *branches):
-    """Adds branches below a segment of a net."""
-
-    def change(netlist):
-        its_list, i = found(netlist, which, number)
-        its_list[i]["branches"] += copy.deepcopy(branches)
-
-    return change
-
-
-def segment(which, number, **fields):
-    def change(netlist):
-        its_list, i = found(netlist, which, number)
-        its_list[i].update(fields)
-
-    return change
-
-
-def instead(which, number, branch):
-    """Puts a branch in the place of a segment and all that is below it."""
-
-    def change(netlist):
-        its_list, i = found(netlist, which, number)
-        its_list[i] = copy.deepcopy(branch)
-
-    return change
-
-
-def cut(which, number):
-    def change(netlist):
-        its_list, i = found(netlist, which, number)
-        del its_list[i]
-
-    return change
-
-
-def stub(which, *branches):
-    return add(f"physNets/{which}/stubs", *branches)
-
-
-def moved_to_stub(which, number):
-    def change(netlist):
-        its_list, i = found(netlist, which, number)
-        netlist["physNets"][which]["stubs"].append(its_list.pop(i))
-
-    return change
-
-
 AND, FF, NOT, OUT = 1, 2, 3, 4
 YES = "yes"
 
@@ -310,7 +144,7 @@ YES = "yes"
 
 INSTANCES = [
     ("a netlist with each kind of segment", YES),
-    ("an empty netlist", YES, lambda netlist: netlist.clear()),
+    ("an empty netlist", YES, dict.clear),
     ("a site instance without anything on it", YES, add_instance("S2/0")),
     ("a site instance of an unknown site", "L1 at site S9", at("siteInsts/0/site", "S9")),
     ("a site instance of a tile", "L1 at site T0", at("siteInsts/0/site", "T0")),
@@ -374,8 +208,8 @@ SEGMENTS = [
     ("a site PIP of an unknown BEL", "L1 at net n1 #1", segment(N1, 1, second="M")),
     ("a site PIP of an unknown pin", "L1 at net n1 #1", segment(N1, 1, third="D0")),
     ("a site PIP named by its output", "L1 at net n1 #1", segment(N1, 1, third="D")),
-    ("a site PIP of a BEL of category logic", "L1 at net n2 #5", below(N2, 4, site_pip("S0", "L0", "A"))),
-    ("a pin that begins no site PIP", "L1 at net n2 #5", below(N2, 4, site_pip("S0", "L1", "A"))),
+    ("a site PIP of a BEL of category logic", "L1 at net n2 #6", below(N2, 4, site_pip("S0", "L0", "A"))),
+    ("a pin that begins no site PIP", "L1 at net n2 #6", below(N2, 4, site_pip("S0", "L1", "A"))),
 ]
 
 PIPS = [
@@ -443,7 +277,7 @@ TABLES = [
     ("a table with a character between 9 and A", "L1 at key TABLE/S1/0", add_table("TABLE/S1/0", "0" * 15 + ":")),
     ("a table of 16 bytes in 8 characters", "L1 at key TABLE/S1/0", add_table("TABLE/S1/0", "é" * 8)),
     ("a table of 16 characters in 32 bytes", "L1 at key TABLE/S1/0", add_table("TABLE/S1/0", "é" * 16)),
-    ("a table twice", "L1 at key TABLE/S1/1", add_table("TABLE/S1/1", "0000000000000004")),
+    ("a table twice", "L1 at key TABLE/S1/1", add_table("TABLE/S1/1", "0000000000000050")),
     ("a table twice, with another value", "L1 at key TABLE/S0/0", add_table("TABLE/S0/0")),
     ("a table thrice", "L1 at key TABLE/S1/0",
      add_table("TABLE/S1/0"), add_table("TABLE/S0/1"), add_table("TABLE/S1/0"), add_table("TABLE/S1/0")),
@@ -470,7 +304,6 @@ PLACES = [
     ("a cell on a routing BEL that a pin map lists", "L2 at cell t", add_cell("t", "TIE", "S1", "MUX", "")),
     ("a cell whose first pin map names a BEL pin twice", "L2 at cell t",
      drop("placements/0"), drop("physNets/2"), add_cell("t", "TWICE", "P0", "P", "I=I")),
-    ("a cell of a type whose other pin map lists its site type", YES),
     ("a cell on a site without an instance", "L2 at cell out", drop("siteInsts/3")),
     ("a site's second instance comes before a cell without one", "L2 at site S0", drop("siteInsts/1"), add_instance("S0")),
     ("all instances come before all placements, also here", "L2 at site S1",
@@ -483,36 +316,34 @@ PIN_MAPS = [
     ("an entry of another BEL, of a LUT", "L3 at cell and", of_pin(AND, 1, bel="L1")),
     ("an entry of another BEL, of a plain cell", "L3 at cell ff", of_pin(FF, 0, bel="L0")),
     ("an entry that the device's pin map lacks", "L3 at cell ff", of_pin(FF, 0, belPin="D")),
-    ("an entry of a cell pin without one", "L3 at cell ff", add("placements/2/pinMap",
-     {"cellPin": "E", "bel": "FF", "belPin": "E"})),
-    ("an entry of a BEL pin in no wire", YES, of_cell(FF, type="FDE"), add("placements/2/pinMap",
-     {"cellPin": "E", "bel": "FF", "belPin": "E"})),
-    ("an entry twice", YES, add("placements/2/pinMap", {"cellPin": "Q", "bel": "FF", "belPin": "Q"})),
+    ("an entry of a pin that only another type has", "L3 at cell ff", add("placements/2/pinMap", *pin_map("FF", "E=E"))),
+    ("an entry of a BEL pin in no wire", YES, of_cell(FF, type="FDE"), add("placements/2/pinMap", *pin_map("FF", "E=E"))),
+    ("an entry twice", YES, add("placements/2/pinMap", *pin_map("FF", "Q=Q"))),
     ("an entry left out", YES, drop("placements/2/pinMap/0")),
     ("a plain cell without entries", YES, of_cell(OUT, pinMap=[])),
     ("a LUT with an input left out", "L3 at cell and", drop("placements/1/pinMap/1")),
     ("a LUT with an input twice on one pin", "L3 at cell and",
-     add("placements/1/pinMap", {"cellPin": "I0", "bel": "L0", "belPin": "C"})),
+     add("placements/1/pinMap", *pin_map("L0", "I0=C"))),
     ("a LUT with an input on two pins", "L3 at cell and",
-     add("placements/1/pinMap", {"cellPin": "I0", "bel": "L0", "belPin": "B"})),
+     add("placements/1/pinMap", *pin_map("L0", "I0=B"))),
     ("a LUT with two inputs on one pin", "L3 at cell and", of_pin(AND, 0, belPin="A")),
     ("a LUT with an input on its BEL's output", "L3 at cell and", of_pin(AND, 0, belPin="O")),
     ("a LUT with its inputs in another order", YES, reverse("placements"),
-     lambda netlist: netlist["placements"][3]["pinMap"].reverse()),
+     reverse("placements/3/pinMap")),
     ("a LUT with its inputs on other pins", YES, of_pin(AND, 0, belPin="A"), of_pin(AND, 1, belPin="C")),
     ("a LUT with its output left out", "L5 at net n1 #0", drop("placements/1/pinMap/2")),
     ("a LUT with its output left out, and no net there", YES, drop("placements/1/pinMap/2"), drop("physNets/3")),
-    ("a LUT with its output twice", YES, add("placements/1/pinMap", {"cellPin": "O", "bel": "L0", "belPin": "O"})),
+    ("a LUT with its output twice", YES, add("placements/1/pinMap", *pin_map("L0", "O=O"))),
     ("a LUT with its output on an input", "L3 at cell not", of_pin(NOT, 1, belPin="A")),
     ("a LUT with an entry that is none of the device's", "L3 at cell not",
-     add("placements/3/pinMap", {"cellPin": "I1", "bel": "L2", "belPin": "A"})),
+     add("placements/3/pinMap", *pin_map("L2", "I1=A"))),
     ("a LUT with all inputs of its BEL", YES,
-     of_cell(AND, type="LUT3"), add("placements/1/pinMap", {"cellPin": "I2", "bel": "L0", "belPin": "B"})),
+     of_cell(AND, type="LUT3"), add("placements/1/pinMap", *pin_map("L0", "I2=B"))),
     ("a LUT without an entry", "L3 at cell not", of_cell(NOT, pinMap=[])),
 ]
 
 TREES = [
-    ("a sink below the wrong parent", "L4 at net n0 #3", below(N0, 1, bel_pin("S0", "L0", "C")), cut(N0, 2)),
+    ("a sink below the wrong parent", "L4 at net n0 #2", below(N0, 1, bel_pin("S0", "L0", "C")), cut(N0, 2)),
     ("a chain of site pins", "L4 at net n0 #2", instead(N0, 2, site_pin("P0", "o", site_pin("P0", "o")))),
     ("a BEL pin below one of another wire", "L4 at net n1 #1", instead(N1, 1, bel_pin("S0", "FF", "D"))),
     ("a BEL pin below one of its wire", YES, below(N1, 2, bel_pin("S0", "FF", "D", bel_pin("S0", "FF", "D")))),
@@ -520,7 +351,6 @@ TREES = [
      instead(N0, 3, pip("T0", "R0", "c", bel_pin("S0", "L0", "C")))),
     ("after a branch the parent is the one above it", "L4 at net n0 #6",
      instead(N0, 6, pip("T1", "R1", "e"))),
-    ("a PIP from another wire of its parent's node", YES),
     ("a PIP from a wire of the same name in another tile", "L4 at net n2 #3", instead(N2, 3, pip("T1", "R1", "a"))),
     ("the first of two site PIPs of an input", "L4 at net n1 #2",
      instead(N1, 2, site_pin("S0", "m"))),
@@ -550,11 +380,9 @@ ROOTS = [
      add_net("n4", bel_pin("S1", "FF", "Q"))),
     ("an output of a BEL whose cell leaves it out as source", "L5 at net n2 #0", drop("placements/2/pinMap/2")),
     ("an output of a routing BEL as source", "L5 at net n1 #0", rooted(N1, bel_pin("S0", "MUX", "D"))),
-    ("an output site pin as source", "L5 at net n0 #0", lambda netlist: netlist["physNets"][N0].update(
-        sources=netlist["physNets"][N0]["sources"][0]["branches"])),
+    ("an output site pin as source", "L5 at net n0 #0", without_root(N0)),
     ("a PIP as source of a signal net", "L5 at net n3 #0", rooted(N3, pip("T1", "R1", "i"))),
-    ("a site PIP as source of a signal net", "L5 at net n1 #0", lambda netlist: netlist["physNets"][N1].update(
-        sources=netlist["physNets"][N1]["sources"][0]["branches"][:1])),
+    ("a site PIP as source of a signal net", "L5 at net n1 #0", without_root(N1)),
     ("a PIP from a constant's node as source of a signal net", "L5 at net n4 #0", add_net("n4", pip("T0", "G", "x"))),
     ("a constant's source as source of a signal net", "L5 at net n4 #0", add_net("n4", bel_pin("S1", "ZERO", "O"))),
     ("a mapped output as source of a constant", "L5 at net one #6", add("physNets/1/sources", bel_pin("S0", "L0", "O"))),
@@ -571,7 +399,7 @@ ROOTS = [
     ("vcc from an input site pin at another node", "L5 at net one #6", add("physNets/1/sources", site_pin("S0", "x"))),
     ("vcc from an output site pin", "L5 at net one #6", add("physNets/1/sources", site_pin("S1", "o"))),
     ("vcc from a site PIP at a source's wire", "L5 at net one #0",
-     rooted(ONE, site_pip("S1", "MUX", "H")), add_cell("f", "FD", "S0", "FF", "")) ,
+     rooted(ONE, site_pip("S1", "MUX", "H"))),
     ("gnd from its source in a site", YES, add("physNets/0/sources", bel_pin("S1", "ZERO", "O"))),
     ("gnd from a source of vcc", "L5 at net zero #3", add("physNets/0/sources", bel_pin("S0", "ONE", "O"))),
     ("vcc from a source of gnd", "L5 at net one #6", add("physNets/1/sources", bel_pin("S0", "ZERO", "O"))),
@@ -593,60 +421,6 @@ ROOTS = [
     ("a second source comes before a stub that begins at a wire", "L5 at net n1 #3",
      add("physNets/3/sources", bel_pin("S0", "L0", "O")), stub(N1, bel_pin("S0", "L0", "O"))),
     ("a constant's stub that begins at a wire", "L5 at net zero #3", stub(ZERO, bel_pin("S1", "ZERO", "O"))),
-]
-
-ENTERED = [
-    ("a node entered twice", "L6 at net g #2",
-     below(0, 0, pip("T0", "R0", "R1", forward=0), pip("T0", "R0", "R1", forward=0))),
-    ("a node entered again behind the way", "L6 at net g #3",
-     below(0, 0, pip("T0", "R0", "R1", pip("T0", "R0", "x"), forward=0), pip("T0", "R1", "x"))),
-    ("a node entered by two of its wires", "L6 at net g #4",
-     below(0, 0, pip("T0", "R0", "R1", pip("T0", "R0", "e"), pip("T0", "R0", "c"), pip("T0", "R0", "u"), forward=0))),
-    ("the way back", "L6 at net g #2", below(0, 0, pip("T0", "R0", "R1", pip("T0", "R0", "R1"), forward=0))),
-    ("a wire entered twice", "L6 at net one #7",
-     add("physNets/1/sources", site_pin("S1", "x", site_pip("S1", "INV", "T")))),
-    ("a BEL pin twice", YES, below(N1, 1, bel_pin("S0", "FF", "D"))),
-    ("a root's wire entered by a site PIP", "L6 at net n1 #6", cut(N2, 3), below(N1, 0, site_pin("S0", "o", pip(
-        "T0", "o", "R0", pip("T0", "R0", "a", site_pin("S0", "a", site_pip("S0", "BACK", "I"))))))) ,
-    ("a root's wire entered by a later root's tree", "L6 at net one #7",
-     add("physNets/1/sources", site_pin("S1", "x", site_pip("S1", "BACK", "J")))),
-    ("a root's wire entered by an earlier root's tree", "L6 at net one #2",
-     lambda netlist: netlist["physNets"][ONE]["sources"].insert(0, site_pin("S1", "x", site_pip("S1", "BACK", "J")))),
-    ("a node of the constant entered", "L6 at net g #1", below(0, 0, pip("T0", "R1", "G"))),
-    ("a node of the constant entered at once", "L6 at net one #6", add("physNets/1/sources", pip("T1", "V", "W"))),
-    ("a node entered that is of the constant in another tile alone", YES,
-     add("physNets/1/sources", pip("T0", "V", "W"))),
-    ("a root that enters where it begins", "L6 at net g #1", add("physNets/0/sources", pip("T0", "G", "G"))),
-    ("a stub that enters where it begins", "yes / L10 at net n3 #6",
-     stub(N3, pip("T1", "R1", "R2"), pip("T0", "R2", "i"))),
-    ("a node of the constant entered in a stub", "L6 at net zero #3", stub(ZERO, pip("T0", "R1", "G"))),
-    ("a stub's node entered", "yes / L10 at net n0 #7", moved_to_stub(N0, 7)),
-    ("a stub's way entered", "L6 at net n0 #9", stub(N0, pip("T1", "R0", "e"))),
-    ("two stubs at one node", "yes / L10 at net n3 #6", stub(N3, pip("T1", "R2", "i"), pip("T1", "R2", "x")),
-     cut(N3, 3)),
-    ("two stubs with one way", "L6 at net n3 #7", stub(N3, pip("T1", "R1", "R2"), pip("T1", "R1", "R2"))),
-    ("a root's wire entered in a stub", "L6 at net n1 #6", cut(N2, 3),
-     stub(N1, pip("T1", "R0", "R1"), pip("T0", "R0", "a", site_pin("S0", "a", site_pip("S0", "BACK", "I"))))),
-    ("two nets that enter one node are no matter of trees", "L7 at net n3 #6",
-     add("physNets/5/sources/0/branches", site_pin("S1", "f"))),
-]
-
-SHARED = [
-    ("two nets at a node", "L7 at net n2 #6", below(N2, 2, pip("T0", "R0", "R1"))),
-    ("two nets at two wires of a node", "L7 at net n3 #4",
-     below(N3, 2, pip("T1", "R0", "R1", forward=0)), cut(N3, 3)),
-    ("two nets at a site wire", "L7 at net n1 #1", add("physNets/1/sources", bel_pin("S0", "ONE", "O", site_pip(
-        "S0", "MUX", "H")))),
-    ("two nets at a site wire, by BEL pins alone", "L7 at net n4 #0",
-     add_cell("l", "LUT1", "S0", "L1", "I0=A O=O"), add_net("n4", bel_pin("S0", "L0", "O"))),
-    ("a signal on the node of a constant that is listed", "L7 at net n0 #6", instead(N0, 6, pip("T0", "R0", "V"))),
-    ("a signal on the node of a constant that isn't listed", "L7 at net n0 #6",
-     instead(N0, 6, pip("T0", "R0", "V")), cut(ONE, 3), drop("placements/2/pinMap/0")),
-    ("a signal on the node of a constant that stands after it", "L7 at net n0 #6",
-     instead(N0, 6, pip("T0", "R0", "V")), reverse("physNets")),
-    ("a signal on a node that is listed for both constants", YES, below(N2, 2, pip("T0", "R1", "B"))),
-    ("a constant on a node that is listed for both", YES,
-     below(ZERO, 0), add("physNets/0/sources", pip("T1", "G", "x"))),
 ]
 
 # On GROUND.
@@ -675,29 +449,27 @@ ENTERED = [
     ("a wire entered twice", "L6 at net one #7",
      add("physNets/1/sources", site_pin("S1", "x", site_pip("S1", "INV", "T")))),
     ("a BEL pin twice", YES, below(N1, 1, bel_pin("S0", "FF", "D"))),
-    ("a root's wire entered", "L6 at net n1 #6", cut(N0, 3), cut(N2, 3), below(N1, 0, site_pin("S0", "o", pip(
+    ("a root's wire entered", "L6 at net n1 #7", cut(N0, 3), cut(N2, 3), below(N1, 0, site_pin("S0", "o", pip(
         "T0", "o", "R0", pip("T0", "R0", "a", site_pin("S0", "a", site_pip("S0", "BACK", "I"))))))),
     ("a root's wire entered in a stub", "L6 at net n1 #5", cut(N2, 3),
      stub(N1, pip("T1", "R2", "k"), site_pin("S0", "a", site_pip("S0", "BACK", "I")))),
     ("a root's wire entered by a later root's tree", "L6 at net one #7",
      add("physNets/1/sources", site_pin("S1", "x", site_pip("S1", "BACK", "J")))),
-    ("a root's wire entered by an earlier root's tree", "L6 at net one #2",
-     lambda netlist: netlist["physNets"][ONE]["sources"].insert(0, site_pin("S1", "x", site_pip("S1", "BACK", "J")))),
-    ("a stub that enters where it begins, and a node of stubs entered", "yes / L10 at net n3 #6",
-     stub(N3, pip("T1", "R1", "R2"), pip("T1", "R2", "x"))),
+    ("a root's wire entered by an earlier root's tree", "L6 at net one #5",
+     add("physNets/1/sources", site_pin("S1", "x", site_pip("S1", "BACK", "J"))), reverse("physNets/1/sources")),
+    ("a stub's node entered by another stub", "yes / L10 at net n3 #6",
+     stub(N3, pip("T1", "R1", "R2"), pip("T1", "R2", "k"))),
     ("a stub's node entered", "yes / L10 at net n0 #7", moved_to_stub(N0, 7)),
     ("a node entered in the sources and in a stub", "L6 at net n0 #9", stub(N0, pip("T1", "R0", "e"))),
-    ("two stubs at one node", "yes / L10 at net n1 #3", stub(N1, pip("T1", "R2", "i"), pip("T1", "R2", "k"))),
+    ("two stubs at one node", "yes / L10 at net n1 #3", stub(N1, pip("T0", "R2", "i"), pip("T0", "R2", "x"))),
     ("two stubs with one way", "L6 at net n1 #4", stub(N1, pip("T1", "R2", "k"), pip("T1", "R2", "k"))),
-    ("two nets that enter one node", "L7 at net n3 #3",
-     instead(N3, 3, pip("T1", "R0", "R1", forward=0))),
 ]
 
 # The stubs of two nets at the two wires of one node, and a PIP to that node.
 TWO_STUBS = (stub(N0, site_pin("S0", "e")), stub(N1, site_pin("S0", "u")))
 
 SHARED = [
-    ("two nets at a node", "L7 at net n2 #3", below(N2, 2), instead(N2, 3, pip("T0", "R1", "G"))),
+    ("two nets at a node", "L7 at net n3 #3", instead(N3, 3, pip("T1", "R0", "R1", forward=0))),
     ("two nets at a site wire", "L7 at net n1 #1",
      add("physNets/1/sources", bel_pin("S0", "ONE", "O", site_pip("S0", "MUX", "H")))),
     ("two nets at a site wire by BEL pins alone", "L7 at net n4 #0", add_net("n4", bel_pin("S0", "L0", "O"))),
@@ -705,7 +477,7 @@ SHARED = [
      add("physNets/1/sources", bel_pin("S0", "ONE", "O", site_pip("S0", "MUX", "H")))),
     ("a signal on the node of a constant", "L7 at net n0 #6", instead(N0, 6, pip("T0", "R0", "V"))),
     ("a signal on the node of a constant without a net", "L7 at net n3 #3", instead(N3, 3, pip("T1", "R1", "G")),
-     drop("physNets/0"), at("properties/0/value", "0" * 14 + "A0"), lambda netlist: None),
+     drop("physNets/0"), at("properties/0/value", "0" * 14 + "A0")),
     ("a signal on the node of a constant whose net is later", "L7 at net n0 #6",
      instead(N0, 6, pip("T0", "R0", "V")), reverse("physNets")),
     ("a signal on a node that is listed for both constants", YES, below(N2, 2, pip("T0", "R1", "B"))),
@@ -740,17 +512,16 @@ USES = [
      add("physNets/1/sources", bel_pin("S2/0", "ONE", "O"))),
     ("a constant's source on a site without a cell", YES,
      add("physNets/1/sources", bel_pin("S2/0", "ONE", "O")), add_instance("S2/0")),
-    ("a way through a site without an instance", "L8 at net n2 #6",
+    ("a way into a site without an instance", "L8 at net n2 #7",
      below(N2, 2, pip("T0", "R1", "i", site_pin("P0", "i"))), drop("siteInsts/1"), drop("placements/0"),
      drop("physNets/2")),
     ("of two nets the first", "L8 at net n3 #4",
-     *UNUSED, add_net("top", bel_pin("S2/0", "ONE", "O"), ty=SIGNAL), drop("physNets/6")),
+     *UNUSED, reverse("physNets"), add("physNets/4/sources", bel_pin("S2/0", "ONE", "O"))),
 ]
 
 # The first LUT with one input, on A; B is on gnd, C on a signal. Its table inverts A where B is 0, and nowhere else.
 ONE_INPUT = (
-    of_cell(AND, type="LUT1", pinMap=[
-        {"cellPin": "I0", "bel": "L0", "belPin": "A"}, {"cellPin": "O", "bel": "L0", "belPin": "O"}]),
+    of_cell(AND, type="LUT1", pinMap=pin_map("L0", "I0=A O=O")),
     at("properties/0/value", "0000000000000015"),
 )
 ON_B = (of_cell(AND, type="LUT1"), drop("placements/1/pinMap/1"), of_pin(AND, 0, belPin="B"))
@@ -776,14 +547,14 @@ FUNCTIONS = [
     ("a table with junk in its other bits", YES,
      drop("physNets/0"), at("properties/0/value", "FEDCBA98765432A0")),
     ("a table with the digits in the other order", "L9 at element S0 0",
-     drop("physNets/0"), at("properties/0/value", "0A00000000000000"), at("properties/0/value", "0A23456789ABCDEF")),
+     drop("physNets/0"), at("properties/0/value", "0A23456789ABCDEF")),
     ("a table that is right for an input tied low", YES, *ONE_INPUT),
     ("a table that is right for an input tied low, tied high", "L9 at element S0 0",
      *ONE_INPUT, add("physNets/1/sources", TIED_HIGH), drop("physNets/0")),
-    ("a table that is right for an input tied high", YES, *ONE_INPUT, at("properties/0/value", "0000000000000051"),
+    ("a table that is right for an input tied high", YES, *ONE_INPUT, at("properties/0/value", "0000000000000045"),
      add("physNets/1/sources", TIED_HIGH), drop("physNets/0")),
     ("a table that is right for an input tied low, on a signal", "L9 at element S0 0", *ONE_INPUT, drop("physNets/0"),
-     stub(N1, pip("T0", "R0", "b", site_pin("S0", "b")))),
+     below(N2 - 1, 2, pip("T0", "R1", "b", site_pin("S0", "b")))),
     ("an input tied by a BEL pin of another BEL", YES, *ONE_INPUT, segment(ZERO, 2, second="L1")),
     ("an input tied by a site pin alone", YES, *ONE_INPUT, cut(ZERO, 2)),
     ("an input tied in a stub", "yes / L10 at net zero #1", *ONE_INPUT, moved_to_stub(ZERO, 1)),
@@ -792,18 +563,17 @@ FUNCTIONS = [
      *ON_B, at("properties/0/value", "0000000000000037")),
     ("two LUTs that read the same bits", YES, add_cell("l", "LUT1", "S0", "L1", "I0=A O=O")),
     ("two LUTs of which the first has no function", "L9 at element S0 0",
-     add_cell("l", "LUT1", "S0", "L1", "I0=A O=O"), drop("physNets/0"), at("properties/0/value", "0" * 15 + "A")),
+     add_cell("l", "LUT1", "S0", "L1", "I0=A O=O"), drop("physNets/0"), at("properties/0/value", "0" * 14 + "20")),
     ("two LUTs of which the second has no function", "L9 at element S0 0",
      add_cell("l", "LUT1", "S0", "L1", "I0=B O=O")),
     ("a LUT that reads from another bit on", YES, at("properties/2/value", "1234567890ABCD5E")),
     ("a LUT that reads from another bit on has no function", "L9 at element S1 1",
      at("properties/2/value", "1234567890ABCD2E")),
-    ("a LUT with each input used", YES, of_cell(AND, type="LUT3", pinMap=[
-        {"cellPin": f"I{i}", "bel": "L0", "belPin": pin} for i, pin in enumerate("BCA")]), drop("physNets/3"),
-     at("properties/0/value", "00000000000000E8")),
+    ("a LUT with each input used", YES, of_cell(AND, type="LUT3", pinMap=pin_map("L0", "I0=B I1=C I2=A")),
+     drop("physNets/3"), at("properties/0/value", "00000000000000E8")),
 ]
 
-STUB_CASES = [
+UNFINISHED = [
     ("a stub", "yes / L10 at net n2 #4", moved_to_stub(N2, 4)),
     ("the first net with stubs", "yes / L10 at net n0 #7", moved_to_stub(N0, 7), moved_to_stub(N2, 4)),
     ("the first of many stubs", "yes / L10 at net n0 #3", moved_to_stub(N0, 7), moved_to_stub(N0, 4), cut(N0, 3), cut(N0, 3)),
@@ -811,3 +581,149 @@ STUB_CASES = [
     ("a constant's stub without a source", "yes / L10 at net one #0", rooted(ONE), stub(ONE, site_pin("S1", "x"))),
     ("a stub and an earlier rule", "L9 at element S0 0", moved_to_stub(N2, 4), drop("properties/0")),
 ]
+
+# The cases on other devices.
+
+TABLE = "TABLE/SC0/0"
+FIVE = " ".join(f"I{i}=A{i + 1}" for i in range(5))
+FIVES = (
+    at("placements", [
+        cell("u", "LUT5", "SC0", "A6LUT", f"{FIVE} O=O6"),
+        cell("v", "LUT5", "SC0", "A5LUT", f"{FIVE} O=O5"),
+    ]),
+    at("properties", tables((TABLE, "80000000FFFFFFFE"))),
+)
+HIGH = net("GLOBAL_LOGIC1", pip("C0", "L12", "IN5", site_pin("SC0", "A6")), ty=VCC)
+OTHER_PINS = (
+    at("placements/0/pinMap", pin_map("A6LUT", "I0=A3 I1=A1 O=O6")),
+    at("physNets", []),
+)
+
+TABLED = [
+    ("two constants at a LUT without its table", "L9 at element SC0 0"),
+    ("a table of equal bits for inputs that aren't used", YES, add_table(TABLE, "8" * 16)),
+    ("a table of another function", YES, add_table(TABLE, "4" * 16)),
+    ("a table with one bit that differs", "L9 at element SC0 0", add_table(TABLE, "8" * 15 + "0")),
+    ("a table for inputs in their order", YES, add_table(TABLE, "2" * 16)),
+    ("a table for inputs on other pins", YES, *OTHER_PINS, add_table(TABLE, "5050" * 4)),
+    ("a table in order, the inputs on other pins", "L9 at element SC0 0",
+     *OTHER_PINS, add_table(TABLE, "2" * 16)),
+    ("two LUTs of one element, the last input on vcc", YES, *FIVES, at("physNets", [HIGH])),
+    ("two LUTs of one element, the last input open", "L9 at element SC0 0", *FIVES, at("physNets", [])),
+    ("two LUTs of one element, the last input on gnd", "L9 at element SC0 0", *FIVES,
+     at("physNets", [net("g", pip("C0", "L13", "IN5", site_pin("SC0", "A6")), ty=GND)])),
+    ("two LUTs of one element, the table of the first alone", YES, *FIVES, at("physNets", []),
+     at("properties/0/value", "80000000" * 2)),
+]
+
+CHAINED = [
+    ("a net of one chain", YES),
+    ("a net of one chain, without its sink", YES, cut(0, 2)),
+    ("a net of one chain, without its last BEL pin", YES, cut(0, 3)),
+    ("a net of one chain, the half of it a stub", "yes / L10 at net n0 #2", moved_to_stub(0, 2)),
+    ("a driver twice", "L2 at cell d0", add_cell("d0", "DRV", "s0", "OB", "O=O")),
+    ("a driver twice, on two sites", "L2 at cell d0",
+     add_cell("d0", "DRV", "s1", "OB", "O=O"), add_instance("s1", "SRC")),
+    ("a chain of site pins in place of the net", "L4 at net n0 #1",
+     rooted(0, site_pin("s0", "O", site_pin("s0", "O", site_pin("s0", "O"))))),
+]
+
+JOINED = [
+    ("two nets with a stub each at one node", "yes / L7 at net n1 #2"),
+    ("two nets with a stub each at one node, and a PIP there", "L7 at net n1 #2",
+     below(0, 1, pip("M0", "S0", "X", pip("M0", "X", "T0")))),
+    ("two nets with a stub each at one node, and a PIP there in a stub", "L7 at net n1 #2",
+     stub(1, pip("M0", "X", "T1"))),
+]
+
+GROUNDED = [
+    ("a constant with a root in each tile", YES),
+    ("a constant with a root in each tile, a site without its cell", YES, drop("placements/1")),
+    ("a constant with a root in each tile, a site without its instance", "L8 at net GLOBAL_LOGIC0 #4",
+     drop("placements/1"), drop("siteInsts/1")),
+    ("a net of one constant from nodes of the other", "L5 at net GLOBAL_LOGIC0 #0", type_of(0, VCC)),
+]
+
+
+# The files.
+
+GROUPS = [
+    ("slices", "whole", WHOLE, INSTANCES + PLACEMENTS + SEGMENTS),
+    ("slices", "ground", GROUND, PIPS),
+    ("slices", "whole", WHOLE, NETS + TABLES + PLACES + PIN_MAPS + TREES + ROOTS),
+    ("slices", "ground", GROUND, ENTERED_PIPS),
+    ("slices", "whole", WHOLE, ENTERED + SHARED + USES + FUNCTIONS + UNFINISHED),
+    ("one_clb", "lut", LUT, TABLED),
+    ("joined_ends", "chain", CHAIN, CHAINED),
+    ("joined_sinks", "stubs", STUBS, JOINED),
+    ("grounds", "grounded", GROUNDS, GROUNDED),
+]
+
+
+def strings_of(netlist):
+    """The names of a netlist, in the order of their first use."""
+    return message.Reader(*message.read_schema(SCHEMA), message.encode(SCHEMA, netlist)).strings
+
+
+def encoded(netlist, strings):
+    """The file of a netlist whose names begin with those of another."""
+    more = [name for name in strings_of(netlist) if name not in strings]
+    return message.encode(SCHEMA, netlist | {"strList": strings + more})
+
+
+def pieces(base, file):
+    """A file as pieces of its base, `=N+M` for M words from word N on, and new words in hexadecimal digits."""
+    words, new = [[it[8 * i:8 * i + 8] for i in range(len(it) // 8)] for it in (base, file)]
+    told = []
+    for what, start, end, at_new, to_new in SequenceMatcher(None, words, new, False).get_opcodes():
+        if what == "equal":
+            told.append(f"={start}+{end - start}")
+        elif to_new > at_new:
+            told.append(b"".join(new[at_new:to_new]).hex())
+    return " ".join(told)
+
+
+def read_device(name):
+    text = TOP / "tools" / "cases" / f"{name}.device.json"
+    return phys_rules.Device(phys_rules.read(str(text if text.exists() else CASES / "data" / name), "device"))
+
+
+def judged(device, netlist):
+    """The answers at both levels, or one where they are alike."""
+    placed, routed = [
+        phys_rules.judge(device, phys_rules.Netlist(netlist), level).removeprefix("no: ")
+        for level in ("placed", "routed")
+    ]
+    return placed if placed == routed else f"{placed} / {routed}"
+
+
+def printed(answer):
+    """An answer as the program prints it."""
+    told = [it if it == YES else f"no: {it}" for it in answer.split(" / ")]
+    return "; routed ".join(told)
+
+
+def main():
+    if sys.argv[1:] not in ([], ["check"]):
+        sys.exit(__doc__)
+    lines, answers, files = [], [], {}
+    for name, base, start, group in GROUPS:
+        device, strings = read_device(name), strings_of(start)
+        files[base] = encoded(start, strings)
+        for shows, by_hand, *changes in group:
+            netlist = copy.deepcopy(start)
+            for change in changes:
+                change(netlist)
+            answer = judged(device, netlist)
+            assert answer == by_hand, f"{shows}: by hand {by_hand}, judged {answer}"
+            lines.append(f"{shows} | {name} | {base} | {pieces(files[base], encoded(netlist, strings))}")
+            answers.append(f"{shows}: {printed(answer)}")
+    head = "# What each shows, its device, and its netlist: a file, and the pieces that it is made of."
+    wanted = {CASES / "data" / base: file.hex() + "\n" for base, file in files.items()}
+    wanted[CASES / "data" / "cases"] = "\n".join([head + " Written by tools/rules_cases.py.", *lines]) + "\n"
+    wanted[CASES / "stdout"] = "\n".join(answers) + "\n"
+    write_or_check("rules_cases", wanted, len(answers))
+
+
+if __name__ == "__main__":
+    main()

@@ -610,7 +610,7 @@ TABLED = [
      *OTHER_PINS, add_table(TABLE, "2" * 16)),
     ("two LUTs of one element, the last input on vcc", YES, *FIVES, at("physNets", [HIGH])),
     ("two LUTs of one element, the last input open", "L9 at element SC0 0", *FIVES, at("physNets", [])),
-    ("two LUTs of one element, the last input on gnd", "L9 at element SC0 0", *FIVES,
+    ("two LUTs of one element, the last input on gnd", YES, *FIVES,
      at("physNets", [net("g", pip("C0", "L13", "IN5", site_pin("SC0", "A6")), ty=GND)])),
     ("two LUTs of one element, the table of the first alone", YES, *FIVES, at("physNets", []),
      at("properties/0/value", "80000000" * 2)),

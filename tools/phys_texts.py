@@ -60,7 +60,7 @@ def at(path, value):
 
     def change(netlist):
         inside, last = held(netlist, path)
-        inside[last] = value
+        inside[last] = copy.deepcopy(value)
 
     return change
 
@@ -124,7 +124,7 @@ def add_cell(*args):
 
 
 def of_cell(which, **fields):
-    return lambda netlist: netlist["placements"][which].update(fields)
+    return lambda netlist: netlist["placements"][which].update(copy.deepcopy(fields))
 
 
 def of_pin(which, pin, **fields):

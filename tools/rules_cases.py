@@ -647,12 +647,13 @@ GROUNDED = [
 
 # The files.
 
+ON_WHOLE = [
+    INSTANCES, PLACEMENTS, SEGMENTS, NETS, TABLES, PLACES, PIN_MAPS, TREES, ROOTS, ENTERED, SHARED, USES, FUNCTIONS,
+    UNFINISHED,
+]
 GROUPS = [
-    ("slices", "whole", WHOLE, INSTANCES + PLACEMENTS + SEGMENTS),
-    ("slices", "ground", GROUND, PIPS),
-    ("slices", "whole", WHOLE, NETS + TABLES + PLACES + PIN_MAPS + TREES + ROOTS),
-    ("slices", "ground", GROUND, ENTERED_PIPS),
-    ("slices", "whole", WHOLE, ENTERED + SHARED + USES + FUNCTIONS + UNFINISHED),
+    ("slices", "whole", WHOLE, [case for group in ON_WHOLE for case in group]),
+    ("slices", "ground", GROUND, PIPS + ENTERED_PIPS),
     ("one_clb", "lut", LUT, TABLED),
     ("joined_ends", "chain", CHAIN, CHAINED),
     ("joined_sinks", "stubs", STUBS, JOINED),
@@ -660,15 +661,24 @@ GROUPS = [
 ]
 
 
-def strings_of(netlist):
-    """The names of a netlist, in the order of their first use."""
-    return message.Reader(*message.read_schema(SCHEMA), message.encode(SCHEMA, netlist)).strings
-
-
 def encoded(netlist, strings):
-    """The file of a netlist whose names begin with those of another."""
-    more = [name for name in strings_of(netlist) if name not in strings]
-    return message.encode(SCHEMA, netlist | {"strList": strings + more})
+    return message.encode(SCHEMA, netlist | {"strList": strings})
+
+
+def strings_of(netlists):
+    """The names of netlists, each where it is first used: with one table of them files differ in few words."""
+    names = {}
+    for netlist in netlists:
+        file = message.encode(SCHEMA, netlist)
+        names |= dict.fromkeys(message.Reader(*message.read_schema(SCHEMA), file).strings)
+    return list(names)
+
+
+def changed(netlist, changes):
+    netlist = copy.deepcopy(netlist)
+    for change in changes:
+        change(netlist)
+    return netlist
 
 
 def pieces(base, file):
@@ -708,15 +718,14 @@ def main():
         sys.exit(__doc__)
     lines, answers, files = [], [], {}
     for name, base, start, group in GROUPS:
-        device, strings = read_device(name), strings_of(start)
-        files[base] = encoded(start, strings)
-        for shows, by_hand, *changes in group:
-            netlist = copy.deepcopy(start)
-            for change in changes:
-                change(netlist)
+        device = read_device(name)
+        netlists = [start] + [changed(start, changes) for _, _, *changes in group]
+        strings = strings_of(netlists)
+        files[base], *changed_files = [encoded(netlist, strings) for netlist in netlists]
+        for (shows, by_hand, *_), netlist, file in zip(group, netlists[1:], changed_files):
             answer = judged(device, netlist)
             assert answer == by_hand, f"{shows}: by hand {by_hand}, judged {answer}"
-            lines.append(f"{shows} | {name} | {base} | {pieces(files[base], encoded(netlist, strings))}")
+            lines.append(f"{shows} | {name} | {base} | {pieces(files[base], file)}")
             answers.append(f"{shows}: {printed(answer)}")
     head = "# What each shows, its device, and its netlist: a file, and the pieces that it is made of."
     wanted = {CASES / "data" / base: file.hex() + "\n" for base, file in files.items()}

@@ -33,7 +33,8 @@ pub(crate) fn line_at(
 
 /// Adds a line without its line feed.
 pub(crate) fn put_line(text: &mut String, line: &[u8]) -> Result<()> {
-    text.push_str(str::from_utf8(line)?.trim_end())?;
+    let line = str::from_utf8(line)?;
+    text.push_str(line.strip_suffix('\n').unwrap_or(line))?;
     Ok(())
 }
 

@@ -1,26 +1,25 @@
 -- The lists of a netlist that was read are no longer than what the reading may cost.
-use Rattle.std.proofs.Common.{◌≡◌, ◌∙◌, ◌≤◌, ◌+◌, ◌^◌, ℕ, suc, List, [], ◌∷◌, length, map}
+use Rattle.std.proofs.Common.{◌≡◌, ◌∙◌, ◌≤◌, ◌+◌, ◌^◌, ℕ, List, [], ◌∷◌, length, map}
 use Rattle.std.proofs.Common.{Option, Some, None, Result, Ok, Err, refl, sym, ap, arith}
-use Rattle.std.specs.Prelude.{IfOk}
 use Rattle.std.specs.List.{All, AllByRecursion, sum_by}
 use Rattle.std.proofs.lemmas.List.{length-map, length-append}
 use Rattle.std.proofs.lemmas.List.Elements.{recursion_from_All}
 use Rattle.std.proofs.lemmas.List.Sums.{sum_by-cons}
 use Rattle.ix_device_read.specs.Premises.{branches_in, structs_in, parts_in}
-use Rattle.ix_device_read.specs.Reading.{reading_in_segments}
+use Rattle.ix_device_read.specs.Reading.{reading_in_segments, record_unless_bad}
 use Rattle.ix_device_read.proofs.Bound.{message_bound}
 use Rattle.ix_frame.specs.Objects.{whole_budget}
 use Rattle.ix_frame.specs.Result.{◌>>=◌}
 use Rattle.ix_frame.specs.Segments.{Segments}
 use Rattle.ix_legal.specs.Legal.{IsShort, IsSmall, IsSound, most_entries}
-use Rattle.ix_message.specs.Indexes.{Item}
+use Rattle.ix_message.specs.Indexes.{Item, first_bad}
 use Rattle.ix_message.specs.Message.{framed, unless_bad, numbers_in_segments}
 use Rattle.ix_message.specs.Names.{Datum, record_of, branches_map}
 use Rattle.ix_message.specs.Phys.{cell_placement, phys_net, site_instance, property, phys_netlist}
-use Rattle.ix_message.specs.Phys.{segment}
 use Rattle.ix_message.specs.Shape.{Text, Value, Branches, ends, branch, preorder}
 use Rattle.ix_num.specs.declared.fault.FrameFault.{FrameFault}
 use Rattle.ix_phys_read.specs.Forests.{HasForests}
+use Rattle.ix_phys_read.proofs.Opened.{has_it}
 use Rattle.ix_phys_write.specs.Record.{phys_record, placement_record, net_record}
 use Rattle.ix_phys_write.specs.Record.{site_instance_record, property_record, segment_row}
 use Rattle.ix_phys_write.specs.Record.{IsPhysNamed}
@@ -53,9 +52,14 @@ numbered : (all : Segments) (r : Value Datum phys_netlist)
 numbered all r h = go (numbers_in_segments phys_netlist all) refl h
   where
     go : (found : Result (List Text × Value ℕ phys_netlist) FrameFault)
-        → numbers_in_segments phys_netlist all ≡ found → (framed found >>=
-        λ x. unless_bad _ (record_of x.0 phys_netlist x.1)) ≡ Ok r → Numbered all r
-    go (Ok x) is h = record { table = x.0; v = x.1; read = is; made = not_bad _ _ r h }
+        → numbers_in_segments phys_netlist all ≡ found
+        → (framed found >>= λ x. record_unless_bad x.0 phys_netlist x.1) ≡ Ok r → Numbered all r
+    go (Ok x) is h = record {
+      table = x.0;
+      v = x.1;
+      read = is;
+      made = not_bad (first_bad phys_netlist (length x.0) x.1) (record_of x.0 phys_netlist x.1) r h;
+    }
     go (Err e) is h = absurd cc
 
 -- Each struct counts at least itself.
@@ -193,18 +197,13 @@ pub read_sound : (names : List Text) (all : Segments) (phys : Phys)
     → IsPhysNamed names phys → All HasForests phys.nets → AllDiffer names → IsSound names phys
 read_sound names all phys short is named forests differ =
     let n = numbered all (phys_record names phys) is in
-    let bound : structs_in phys_netlist n.v ≤ whole_budget all + 1 =
-    counted (numbers_in_segments phys_netlist all) n.read (message_bound phys_netlist refl all) in
+    let bound = has_it _ (numbers_in_segments phys_netlist all) (n.table, n.v) n.read
+    (message_bound phys_netlist refl all) in
+    let few : structs_in phys_netlist n.v ≤ most_entries + 1 = omega (arith, bound.0) in
     let each = recursion_from_All HasForests phys.nets forests in
     record {
-      small = small names n.table n.v phys (counts n.v (omega arith)) n.made each;
+      small = small names n.table n.v phys (counts n.v few) n.made each;
       differ = differ;
       named = named;
       preorder = each;
     }
-  where
-    counted : {table : List Text} {v : Value ℕ phys_netlist}
-        → (r : Result (List Text × Value ℕ phys_netlist) FrameFault) → r ≡ Ok (table, v)
-        → IfOk r (λ x. (structs_in phys_netlist x.1 ≤ whole_budget all + 1 + 0) × _)
-        → structs_in phys_netlist v ≤ whole_budget all + 1
-    counted r is h = let both = rw is at h in omega (arith, both.0)

@@ -5,7 +5,6 @@ ghost use Rattle.ix_phys_laws.specs.Laws.{ReadNetlistsAreSound};
 /// A physical netlist that was read is sound: its lists are no longer than a file can tell, its
 /// numbers are names, and its trees are in preorder. What this asks are the clauses of `read_phys`,
 /// and that no two names are alike, which a table of names tells with their number.
-#[tactic(auto, using(crate::proofs::Small::read_sound))]
 pub fn read_netlists_are_sound()
     ensures { ReadNetlistsAreSound }
 {}

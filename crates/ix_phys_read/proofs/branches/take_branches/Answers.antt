@@ -1,4 +1,4 @@
-use Rattle.std.proofs.Common.{◌≡◌, ◌<◌, ◌≤◌, ◌+◌, ◌++◌, ◌∷◌, ◌∙◌, [], List, length, refl, sym}
+use Rattle.std.proofs.Common.{◌≡◌, ◌<◌, ◌≤◌, ◌+◌, ◌∷◌, ◌∙◌, [], List, length, refl, sym}
 use Rattle.std.proofs.Common.{subst, arith, rules, ◌^◌}
 use Rattle.ix_phys_read.specs.Open.{Puts}
 use Rattle.std.proofs.lemmas.List.{length-append}

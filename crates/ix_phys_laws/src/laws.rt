@@ -4,7 +4,8 @@ ghost use Rattle.ix_phys_laws.specs.Laws.{ReadNetlistsAreSound};
 
 /// A physical netlist that was read is sound: its lists are no longer than a file can tell, its
 /// numbers are names, and its trees are in preorder. What this asks are the clauses of `read_phys`,
-/// and that no two names are alike, which a table of names tells with their number.
+/// and that no two names are alike, which a table of names tells with their number: a caller of
+/// `read_phys` that asks `Names::len` after it and calls this has the whole.
 pub fn read_netlists_are_sound()
     ensures { ReadNetlistsAreSound }
 {}

@@ -1,84 +1,71 @@
 -- The first numbers of the elements of one instance more.
-use Rattle.std.proofs.Common.{◌≡◌, ◌<◌, ◌+◌, ◌^◌, ◌⊎◌, ◌∙◌, refl, ap, sym, ℕ}
-use Rattle.std.proofs.Common.{List, [], ◌∷◌, ◌++◌, length, arith, inl, inr}
-use Rattle.std.specs.Prelude.{slice_get, Some}
+use Rattle.std.proofs.Common.{◌≡◌, ◌<◌, ◌≤◌, ◌+◌, ◌^◌, ◌∙◌, refl, ap, sym, ℕ, suc, arith, inl, inr}
+use Rattle.std.proofs.Common.{List, [], ◌∷◌, ◌++◌, length, take}
+use Rattle.std.specs.Prelude.{slice_get, Some, zero}
+use Rattle.std.specs.List.{sum_by}
 use Rattle.std.proofs.lemmas.List.{length-append}
-use Rattle.std.proofs.lemmas.Option.{none-some, same_Some, slice_get_within}
+use Rattle.std.proofs.lemmas.List.Sums.{sum_by-cons, sum_by_more}
+use Rattle.std.proofs.lemmas.Option.{none-some, same_Some, slice_get_within, get_or_from_slice_get}
 use Rattle.ix_rec.specs.declared.device.DeviceRec.{DeviceRec}
-use Rattle.ix_rec.specs.declared.device.LutElement.{LutElement}
 use Rattle.ix_rec.specs.declared.phys.SiteInstance.{SiteInstance}
 use Rattle.ix_device.proofs.TypeLemmas.{slice_get-push}
-use Rattle.ix_legal.specs.Sites.{elements_at}
-use Rattle.ix_element_numbers.specs.Numbers.{HasBase, AreBases}
+use Rattle.ix_element_numbers.specs.Numbers.{AreBases, elements_of_instance, elements_before}
 
-pub no_bases : (rec : DeviceRec) (instances : List SiteInstance) → AreBases rec instances 0 [] 0
-no_bases rec instances = record {
-  all = refl;
-  within = λ i base elements has. absurd (none-some base has.base_is);
-  apart = λ i j base other elements more has its less. absurd (none-some base has.base_is);
-  few = omega arith;
-}
+-- what an item counts is within what is counted of the first items after it
+counted_before : {A : Type 0} (f : A → ℕ) (xs : List A) (i j : ℕ) (x : A)
+    → slice_get xs i ≡ Some x → i < j → sum_by f (take i xs) + f x ≤ sum_by f (take j xs)
+counted_before f [] i j x at lt = absurd (none-some x at)
+counted_before f (y ∷ ys) i zero x at lt = absurd (omega (arith, lt))
+counted_before f (y ∷ ys) zero (suc j) x at lt =
+    let same : f y ≡ f x = ap f (same_Some y x at) in
+    let more = sum_by-cons f y (take j ys) in omega (arith, same, more)
+counted_before f (y ∷ ys) (suc i) (suc j) x at lt =
+    let rest = counted_before f ys i j x at (omega (arith, lt)) in
+    let one = sum_by-cons f y (take i ys) in
+    let two = sum_by-cons f y (take j ys) in omega (arith, rest, one, two)
 
--- which base an instance has after one more
-module _ (rec : DeviceRec) (instances : List SiteInstance) (done : ℕ) (bases : List ℕ)
-    (count : ℕ) (were : AreBases rec instances done bases count) (now : List ℕ)
-    (now_is : now ≡ bases ++ count ∷ []) (instance : SiteInstance)
-    (at : slice_get instances done ≡ Some instance) (n : ℕ)
-    (counted : (elements : List LutElement) → elements_at rec instance.site ≡ Some elements
-    → n ≡ length elements) where
-  earlier_or_last : (i base : ℕ) (elements : List LutElement)
-      → HasBase rec instances now i base elements
-      → HasBase rec instances bases i base elements
-      ⊎ ((i ≡ done) × (base ≡ count) × (n ≡ length elements))
-  earlier_or_last i base elements has =
-      elim (slice_get-push bases count i base (ap (λ xs. slice_get xs i) (sym now_is)
-      ∙ has.base_is)) [
-        | inl before ↦ inl (record {
-          instance = has.instance;
-          instance_is = has.instance_is;
-          base_is = before;
-          elements_are = has.elements_are;
-        })
-        | inr last ↦ let here : i ≡ done = last.0 ∙ were.all in inr (
-          here,
-          sym last.1,
-          counted elements (ap (λ x. elements_at rec x.site) (same_Some instance has.instance
-              (sym at ∙ ap (slice_get instances) (sym here) ∙ has.instance_is)) ∙ has.elements_are),
-        )
-      ]
+module _ (rec : DeviceRec) (instances : List SiteInstance) where
+  -- the elements of a later instance come after those of an earlier one
+  pub elements_after : (i j : ℕ) (instance : SiteInstance)
+      → slice_get instances i ≡ Some instance → i < j
+      → elements_before rec instances i + elements_of_instance rec instance
+      ≤ elements_before rec instances j
+  elements_after i j instance at lt =
+      counted_before (elements_of_instance rec) instances i j instance at lt
 
-  before_done : (i base : ℕ) (elements : List LutElement)
-      → HasBase rec instances bases i base elements → i < done
-  before_done i base elements has =
-      let within = slice_get_within bases i base has.base_is in
-      let all = were.all in omega (arith, within, all)
+  -- with one instance more
+  one_more_before : (i : ℕ) (instance : SiteInstance) → slice_get instances i ≡ Some instance
+      → elements_before rec instances (i + 1)
+      ≡ elements_before rec instances i + elements_of_instance rec instance
+  one_more_before i instance at =
+      sum_by_more (elements_of_instance rec) instances i instance
+      (slice_get_within instances i instance at)
+      ∙ ap (λ x. elements_before rec instances i + elements_of_instance rec x)
+      (get_or_from_slice_get instances i instance instance at)
 
-  pub one_more_base : n < 2 ^ 32 → AreBases rec instances (done + 1) now (count + n)
-  one_more_base few = record {
+  pub no_bases : AreBases rec instances 0 [] 0
+  no_bases = record {
+    all = refl;
+    each = λ i base at. absurd (none-some base at);
+    count_is = refl;
+    few = omega arith;
+  }
+
+  pub one_more_base : (done : ℕ) (bases : List ℕ) (count : ℕ)
+      → AreBases rec instances done bases count → (now : List ℕ) → now ≡ bases ++ count ∷ []
+      → (instance : SiteInstance) → slice_get instances done ≡ Some instance
+      → (n : ℕ) → n ≡ elements_of_instance rec instance → n < 2 ^ 32
+      → AreBases rec instances (done + 1) now (count + n)
+  one_more_base done bases count were now now_is instance at n n_is small = record {
     all = ap length now_is ∙ length-append bases (count ∷ []) ∙ ap (λ m. m + 1) were.all;
-    within = λ i base elements has. elim (earlier_or_last i base elements has) [
-      | inl before ↦ let under = were.within i base elements before in omega (arith, under)
-      | inr last ↦
-          let here : base ≡ count = last.1 in
-          let many : n ≡ length elements = last.2 in omega (arith, here, many)
-    ];
-    apart = λ i j base other elements more has its less.
-        elim (earlier_or_last i base elements has) [
-          | inl before ↦ elim (earlier_or_last j other more its) [
-            | inl later ↦ were.apart i j base other elements more before later less
-            | inr last ↦
-                let here : other ≡ count = last.1 in
-                let under = were.within i base elements before in omega (arith, under, here)
-          ]
-          | inr last ↦ elim (earlier_or_last j other more its) [
-            | inl later ↦
-                let here : i ≡ done = last.0 in
-                let lower = before_done j other more later in
-                absurd (omega (arith, lower, here, less))
-            | inr also ↦
-                let here : i ≡ done = last.0 in
-                let there : j ≡ done = also.0 in absurd (omega (arith, here, there, less))
-          ]
+    each = λ i base is.
+        elim (slice_get-push bases count i base (ap (λ xs. slice_get xs i) (sym now_is) ∙ is)) [
+          | inl before ↦ were.each i base before
+          | inr last ↦ sym last.1 ∙ were.count_is
+              ∙ ap (elements_before rec instances) (sym (last.0 ∙ were.all))
         ];
-    few = let under = were.few in omega (arith, under, few);
+    count_is = ap (λ m. m + n) were.count_is
+        ∙ ap (λ m. elements_before rec instances done + m) n_is
+        ∙ sym (one_more_before done instance at);
+    few = let under = were.few in omega (arith, under, small);
   }

@@ -1,12 +1,10 @@
 //! The first numbers of the elements of instances.
 
-ghost use Rattle.std.specs.Prelude.{◌≡◌, ◌<◌, ◌^◌, List, Some, length, IfOk};
-ghost use Rattle.ix_legal.specs.Sites.{elements_at};
-ghost use Rattle.ix_rec.specs.declared.device.LutElement.{LutElement};
-ghost use Rattle.ix_element_numbers.specs.Numbers.{AreBases};
+ghost use Rattle.std.specs.Prelude.{◌≡◌, ◌<◌, ◌^◌, length, IfOk};
+ghost use Rattle.ix_element_numbers.specs.Numbers.{AreBases, elements_of_instance};
 
 use ix_device::Device;
-use ix_num::{Memory, NameId};
+use ix_num::Memory;
 use ix_rec::{Items, SiteInstance};
 use ix_walk::site_type_at;
 use std::alloc::Global;
@@ -18,12 +16,11 @@ pub(crate) struct Bases {
     pub count: usize,
 }
 
-// How many elements the type of a site has. A site that isn't there has none.
-fn elements_of(device: &Device, site: NameId) -> u32
-    ensures { (elements : List LutElement) → elements_at device.now site ≡ Some elements
-        → result ≡ length elements }
+// How many elements the site of an instance has. A site that isn't there has none.
+fn element_count(device: &Device, instance: &SiteInstance) -> u32
+    ensures { result ≡ elements_of_instance device.now instance.now }
 {
-    match site_type_at(device, site) {
+    match site_type_at(device, instance.site) {
         Some(t) => device.elements(t),
         None => 0,
     }
@@ -43,7 +40,7 @@ pub(crate) fn bases_of(
     let mut count = 0;
     for i in 0..instances.len() {
         bases.push(count)?;
-        count += elements_of(device, instances.at(i).site) as usize;
+        count += element_count(device, instances.at(i)) as usize;
     }
     Ok(Bases { bases, count })
 }

@@ -2,6 +2,8 @@
 #![tactic(auto)]
 
 mod bases;
+mod laws;
 mod numbers;
 
+pub use laws::{element_is_one, instance_is_one, number_is_one};
 pub use numbers::{ElementNumbers, InElement};

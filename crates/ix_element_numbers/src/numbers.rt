@@ -73,7 +73,8 @@ impl ElementNumbers {
         requires numbers { AreNumbers device.now phys.now self.now }
         requires placed { Everywhere (IsPlaced device.now phys.now) }
         requires inside { placement < length phys.now.placements }
-        ensures element { IfSome result (IsInElement device.now phys.now self.now placement) }
+        ensures element { IfSome result (IsInElement device.now phys.now placement) }
+        ensures inside { IfSome result (λ at. at.number < self.now.count) }
         ensures none { IfNone result (IsInNone device.now phys.now placement) }
     {
         let placement = phys.placements.at(placement);

@@ -54,5 +54,6 @@ pub record AreNoted (names : List Text) (rec : DeviceRec) (phys : Phys)
     (numbers : ElementNumbers) (count : ℕ) (tables : FirstById (Option ElementBits)) : Type 0 where
   pub room : (number : ℕ) → number < numbers.count → IsSome (value_of tables number)
   pub each : (i site element number : ℕ) (noted : Option (Option ElementBits))
-      → IsNumber rec phys numbers i site element number → value_of tables number ≡ Some noted
+      → number < numbers.count → IsNumber rec phys i site element number
+      → value_of tables number ≡ Some noted
       → TellsElement names rec phys count site element noted

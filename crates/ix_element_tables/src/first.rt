@@ -11,7 +11,7 @@ ghost use Rattle.ix_element_tables.specs.Noted.{AreNoted, IsReady, KeepsSharing}
 
 use crate::netlist::Netlist;
 use crate::noted::NotedTables;
-use ix_element_numbers::InElement;
+use ix_element_numbers::{InElement, instance_is_one};
 use ix_placed_luts::function_of;
 
 // Whether an element comes before another in the walk. Where there is no other it does.
@@ -44,8 +44,8 @@ fn keeps_table(
     requires noted { AreNoted on.now.names.now on.now.device.now on.now.phys.now
         on.now.numbers.now (length on.now.phys.now.placements) tables.now }
     requires inside { placement < length on.now.phys.now.placements }
-    requires element { IsInElement on.now.device.now on.now.phys.now on.now.numbers.now placement
-        at }
+    requires element { IsInElement on.now.device.now on.now.phys.now placement at }
+    requires within { at.number < on.now.numbers.now.count }
     ensures { Decides result (KeepsTableAt on.now.names.now on.now.device.now on.now.phys.now
         placement at.element) }
 {
@@ -87,6 +87,7 @@ fn with_placement(
     let Some(at) = on.numbers.find(on.device, on.phys, placement) else {
         return first;
     };
+    instance_is_one();
     if is_earlier(at, first) && !keeps_table(on, tables, placement, at) {
         return Some(at);
     }

@@ -5,6 +5,7 @@ ghost use Rattle.ix_table_keys.specs.Tables.{AreTableKeys};
 ghost use Rattle.ix_element_tables.specs.Noted.{AreNoted, IsReady};
 
 use crate::netlist::Netlist;
+use ix_element_numbers::{element_is_one, number_is_one};
 use ix_first::FirstById;
 use ix_num::Memory;
 use ix_table_keys::TableKeys;
@@ -38,6 +39,8 @@ fn note(
     let Some(at) = on.numbers.find(on.device, on.phys, placement) else {
         return Ok(());
     };
+    element_is_one();
+    number_is_one();
     if tables.get(at.number).is_none() {
         let bits = keys.bits(on.phys, on.names, key, its.site, at.element)?;
         tables.put(at.number, bits);

@@ -1,20 +1,21 @@
-use Rattle.std.proofs.Common.{rules, ◌≡◌, ◌<◌, ◌+◌, length, IfOk, OnOk, ℕ, ◌-◌, ◌*◌, ◌≤◌, ◌/◌, ◌%◌, Bool, true, false, nat_eq, nat_lt, List, [], ◌∷◌, ◌++◌, slice_index_or, slice_set, bit_and, bit_or, Fits, w8, w32, w64, Bor, MutBor}
-use Rattle.ix_table_keys.specs.Tables.{AreTableKeys}
-use Rattle.ix_element_tables.specs.Noted.{AreNoted, IsReady}
+use Rattle.std.proofs.Common.{◌≡◌, subst, arith, length}
+use Rattle.ix_element_tables.specs.Noted.{AreNoted}
+use Rattle.ix_element_tables.proofs.Noting.{none_noted}
 use Rattle.ix_element_tables.proofs.noted.noted_tables.Goals as goal
 
--- src/noted.rt:63:5
 pub loop-placement-init : goal.loop-placement-init
-loop-placement-init c = ?
+loop-placement-init c = none_noted c.args.on.now.names.now c.args.on.now.device.now
+    c.args.on.now.phys.now c.args.on.now.numbers.now c.count.result c.in_ok-tables.tables
+    c.count.ensures c.in_ok-tables.ensures
 
--- src/noted.rt:64:9
 pub note-requires-clause-noted : goal.note-requires-clause-noted
-note-requires-clause-noted c = ?
+note-requires-clause-noted c = c.loop-placement.invariant
 
--- src/noted.rt:63:5
 pub loop-placement-preserved : goal.loop-placement-preserved
-loop-placement-preserved c = ?
+loop-placement-preserved c = c.in_ok-note.ensures.noted
 
--- src/noted.rt:50:1
 pub returns : goal.returns
-returns c = ?
+returns c = subst (λ n. AreNoted c.args.on.now.names.now c.args.on.now.device.now
+    c.args.on.now.phys.now c.args.on.now.numbers.now n c.loop-placement.tables)
+    (let end : c.loop-placement.placement ≡ length c.args.on.now.phys.now.placements = omega arith
+    in end) c.loop-placement.invariant

@@ -1,14 +1,15 @@
 -- The rules in turn.
-use Rattle.std.specs.Prelude.{◌≡◌, ◌<◌, ◌≤◌, ℕ, List, length, Result, Ok, Err}
+use Rattle.std.specs.Prelude.{◌<◌, ◌≤◌, ℕ, List, length, Result, Ok, Err}
 use Rattle.ix_message.specs.Shape.{Text}
 use Rattle.ix_rec.specs.declared.device.DeviceRec.{DeviceRec}
 use Rattle.ix_rec.specs.declared.phys.Phys.{Phys}
 use Rattle.ix_rec.specs.declared.place.Rule.{Rule}
-use Rattle.ix_graph.specs.Graph.{graph_of}
 use Rattle.ix_legal.specs.declared.level.Level.{Level}
-use Rattle.ix_legal.specs.Legal.{Asks, IsSound, order}
-use Rattle.ix_legal.specs.Spots.{Spot, InstanceAt, PlacementAt, NetAt, SegmentAt, PropertyAt}
-use Rattle.ix_legal.specs.Spots.{ElementAt, Everywhere, IsFirstBreak}
+use Rattle.ix_legal.specs.Legal.{Asks, order}
+use Rattle.ix_legal.specs.declared.spot.Spot.{Spot}
+use Rattle.ix_legal.specs.declared.spot.Spot.TheVariants.{InstanceAt, PlacementAt, NetAt}
+use Rattle.ix_legal.specs.declared.spot.Spot.TheVariants.{SegmentAt, PropertyAt, ElementAt}
+use Rattle.ix_legal.specs.Spots.{Everywhere, IsFirstBreak}
 use Rattle.ix_rules.specs.declared.fault.Fault.{Fault}
 use Rattle.ix_rules.specs.declared.fault.Fault.TheVariants.{Broken, Memory}
 

@@ -1,6 +1,6 @@
 //! Why a netlist isn't found legal.
 
-ghost use Rattle.std.specs.Prelude.{◌≡◌, ◌-◌};
+ghost use Rattle.std.specs.Prelude.{◌≡◌, ◌-◌, List};
 ghost use Rattle.ix_message.specs.Shape.{Text};
 ghost use Rattle.ix_rec.specs.declared.device.DeviceRec.{DeviceRec};
 ghost use Rattle.ix_rec.specs.declared.phys.Phys.{Phys as PhysSeen};

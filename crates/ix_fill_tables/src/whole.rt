@@ -1,0 +1,91 @@
+//! The netlist with tables.
+
+use crate::constants::ConstantWires;
+use crate::forced::{Forced, forced_tables};
+use crate::netlist::Netlist;
+use crate::properties::{add_tables, has_tables};
+use crate::told::ToldTables;
+use ix_device::Device;
+use ix_graph::NodeGraph;
+use ix_lut_places::LutPlaces;
+use ix_num::Memory;
+use ix_rec::{Flat, Phys};
+use ix_strings::Names;
+use ix_table_keys::instances_by_name;
+use std::alloc::Global;
+
+// What the LUTs of a netlist force.
+fn forced_of(
+    alloc: Global,
+    device: &Device,
+    graph: &NodeGraph,
+    flat: &Flat,
+    phys: &Phys,
+    names: &Names,
+) -> Result<Forced, Memory> {
+    let places = LutPlaces::new(alloc, device)?;
+    let instances = instances_by_name(alloc, &phys.site_insts, names.len())?;
+    let constants = ConstantWires::new(alloc, device, graph, phys)?;
+    let told = ToldTables::new(alloc, flat, names.len())?;
+    let on = Netlist {
+        device,
+        flat,
+        phys,
+        places: &places,
+        instances: &instances,
+        constants: &constants,
+        told: &told,
+    };
+    forced_tables(alloc, &on)
+}
+
+/// `fill_tables`, with the device's graph at hand.
+pub fn fill_tables_on(
+    alloc: Global,
+    device: &Device,
+    graph: &NodeGraph,
+    flat: &Flat,
+    phys: Phys,
+    names: &mut Names,
+) -> Result<Phys, Memory> {
+    if has_tables(&phys, names) {
+        return Ok(phys);
+    }
+    let forced = forced_of(alloc, device, graph, flat, &phys, names)?;
+    let Phys {
+        part,
+        placements,
+        nets,
+        site_insts,
+        mut properties,
+    } = phys;
+    add_tables(alloc, &site_insts, &mut properties, names, &forced)?;
+    Ok(Phys {
+        part,
+        placements,
+        nets,
+        site_insts,
+        properties,
+    })
+}
+
+/// The netlist with the tables that its LUTs force, by the tables that the flat design tells: behind
+/// its properties, by instance of a site and then by element. A netlist that has a property whose
+/// key begins with `TABLE/` stays as it is.
+///
+/// A LUT forces the bits that give it its table of the design, whatever the values of inputs that
+/// it doesn't use, as long as they agree with the constants that hold their wires. An element gets a
+/// table where a LUT is placed in it and it is usable, but not where a bit is forced both ways.
+///
+/// At most two names a placement are added, each with its own number kept. `Memory` is the only
+/// error; the names may have grown then.
+pub fn fill_tables(
+    alloc: Global,
+    device: &Device,
+    flat: &Flat,
+    phys: Phys,
+    names: &mut Names,
+) -> Result<Phys, Memory> {
+    let graph = NodeGraph::build(alloc, device)?;
+    fill_tables_on(alloc, device, &graph, flat, phys, names)
+}

@@ -79,3 +79,20 @@ pub(crate) fn forced_bits(
     }
     forced
 }
+
+#[cfg(test)]
+mod tests {
+    use super::*;
+
+    #[test]
+    fn a_small_lut(rt: HostRuntime) {
+        let bel = BelShape {
+            low: 0,
+            inputs: 2,
+            lines: [0, 1, 0, 0, 0, 0],
+        };
+        let bits = forced_bits(&bel, &[1, 0], &[Tie::Free; 12], 4);
+        assert_eq!(rt; bits.ones, 2);
+        assert_eq!(rt; bits.zeros, 13);
+    }
+}

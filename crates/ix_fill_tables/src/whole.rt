@@ -1,5 +1,12 @@
 //! The netlist with tables.
 
+ghost use Rattle.std.specs.Prelude.{◌≡◌, ◌≤◌, ◌<◌, ◌+◌, ◌-◌, ◌*◌, ◌^◌, length, IfOk};
+ghost use Rattle.ix_graph.specs.Graph.{graph_of};
+ghost use Rattle.ix_legal.specs.Legal.{IsSound};
+ghost use Rattle.ix_phys_write.specs.Record.{IsPhysNamed};
+ghost use Rattle.ix_strings.specs.Names.{KeepsNumbers};
+ghost use Rattle.ix_fill_tables.specs.Completed.{IsCompleted};
+
 use crate::constants::ConstantWires;
 use crate::forced::{Forced, forced_tables};
 use crate::netlist::Netlist;
@@ -47,7 +54,17 @@ pub fn fill_tables_on(
     flat: &Flat,
     phys: Phys,
     names: &mut Names,
-) -> Result<Phys, Memory> {
+) -> Result<Phys, Memory>
+    requires graph { graph.now ≡ graph_of device.now }
+    requires sound { IsSound names.old phys }
+    requires room { length names.old + 2 * length phys.placements < 2 ^ 32 - 1 }
+    ensures completed { IfOk result (IsCompleted names.new device.now phys flat.now) }
+    ensures named { IfOk result (IsPhysNamed names.new) }
+    ensures few { IfOk result (λ filled. length filled.properties
+        ≤ length phys.properties + length phys.placements) }
+    ensures keeps { KeepsNumbers names.old names.new }
+    ensures most { length names.new ≤ length names.old + 2 * length phys.placements }
+{
     if has_tables(&phys, names) {
         return Ok(phys);
     }
@@ -85,7 +102,16 @@ pub fn fill_tables(
     flat: &Flat,
     phys: Phys,
     names: &mut Names,
-) -> Result<Phys, Memory> {
+) -> Result<Phys, Memory>
+    requires sound { IsSound names.old phys }
+    requires room { length names.old + 2 * length phys.placements < 2 ^ 32 - 1 }
+    ensures completed { IfOk result (IsCompleted names.new device.now phys flat.now) }
+    ensures named { IfOk result (IsPhysNamed names.new) }
+    ensures few { IfOk result (λ filled. length filled.properties
+        ≤ length phys.properties + length phys.placements) }
+    ensures keeps { KeepsNumbers names.old names.new }
+    ensures most { length names.new ≤ length names.old + 2 * length phys.placements }
+{
     let graph = NodeGraph::build(alloc, device)?;
     fill_tables_on(alloc, device, &graph, flat, phys, names)
 }

@@ -1,9 +1,9 @@
 -- The first element that breaks L9, after one placement more.
-use Rattle.std.proofs.Common.{◌≡◌, ◌⊎◌, ◌<◌, ◌+◌, ◌∙◌, refl, ap, sym, subst, ℕ, arith, List}
+use Rattle.std.proofs.Common.{◌≡◌, ◌<◌, ◌+◌, ◌∙◌, ap, sym, subst, ℕ, arith, List}
 use Rattle.std.proofs.Common.{inl, inr}
-use Rattle.std.specs.Prelude.{slice_get, Option, Some, None, IfSome}
+use Rattle.std.specs.Prelude.{slice_get, Option, Some, None}
 use Rattle.std.proofs.lemmas.Bool.{cases_lt}
-use Rattle.std.proofs.lemmas.Option.{none-some, same_Some}
+use Rattle.std.proofs.lemmas.Option.{same_Some}
 use Rattle.ix_message.specs.Shape.{Text}
 use Rattle.ix_rec.specs.declared.device.DeviceRec.{DeviceRec}
 use Rattle.ix_rec.specs.declared.phys.CellPlacement.{CellPlacement}
@@ -13,10 +13,10 @@ use Rattle.ix_legal.specs.Placements.{IsPlaced}
 use Rattle.ix_legal.specs.Sites.{ElementNumber, element_at}
 use Rattle.ix_legal.specs.Spots.{Everywhere}
 use Rattle.ix_element_numbers.specs.Laws.{InstanceIsOne}
-use Rattle.ix_element_numbers.specs.Numbers.{IsInElement, IsInNone}
+use Rattle.ix_element_numbers.specs.Numbers.{IsInElement}
 use Rattle.ix_element_numbers.specs.declared.numbers.InElement.{InElement}
 use Rattle.ix_element_tables.specs.Kept.{IsPlacedIn, KeepsTable, KeepsTableAt}
-use Rattle.ix_element_tables.specs.Least.{IsEarlier, IsBroken, IsLeast}
+use Rattle.ix_element_tables.specs.Least.{IsEarlier, IsLeast}
 
 -- before the first placement there is none
 pub none_broken : (names : List Text) (rec : DeviceRec) (phys : Phys)
@@ -84,11 +84,6 @@ module _ (names : List Text) (rec : DeviceRec) (phys : Phys) (k : ℕ) (first : 
     broken = were.broken;
     kept = kept_with first (λ i element earlier. earlier) here;
   }
-
-  -- a cell in no element
-  pub outer_stays : IsInNone rec phys k → IsLeast names rec phys (k + 1) first
-  outer_stays none = stays (λ i instance element at_i placed earlier.
-      absurd (none-some (element, placed.place) (sym (none placement at) ∙ placed.is_in)))
 
   module _ (instance_is_one : InstanceIsOne) (l2 : Everywhere (IsPlaced rec phys))
       (own : InElement) (in_own : IsInElement rec phys k own) where

@@ -1,6 +1,6 @@
 -- What is noted of an element tells whether a cell in it keeps L9.
-use Rattle.std.proofs.Common.{◌≡◌, ◌⊎◌, ◌<◌, ◌∙◌, refl, ap, sym, subst, ℕ, List, inl, inr}
-use Rattle.std.specs.Prelude.{slice_get, length, Option, Some, None, Contains, Bool, true, false}
+use Rattle.std.proofs.Common.{◌≡◌, ◌<◌, ◌∙◌, refl, ap, sym, subst, ℕ, List, inl, inr}
+use Rattle.std.specs.Prelude.{slice_get, length, Option, Some, None, Contains}
 use Rattle.std.specs.Prelude.{IfSome, IfNone, is_some}
 use Rattle.std.specs.Bool.{Decides}
 use Rattle.std.proofs.lemmas.Bool.{false≢true}
@@ -14,12 +14,12 @@ use Rattle.ix_rec.specs.declared.phys.CellPlacement.{CellPlacement}
 use Rattle.ix_rec.specs.declared.phys.Phys.{Phys}
 use Rattle.ix_lut.specs.Places.{ElementBits}
 use Rattle.ix_lut.specs.Tables.{TableBits}
-use Rattle.ix_legal.specs.LutTables.{HasLut, IsFunction}
+use Rattle.ix_legal.specs.LutTables.{IsFunction}
 use Rattle.ix_legal.specs.Sites.{ElementNumber}
 use Rattle.ix_element_numbers.specs.Numbers.{IsInElement}
 use Rattle.ix_element_numbers.specs.declared.numbers.ElementNumbers.{ElementNumbers}
 use Rattle.ix_element_numbers.specs.declared.numbers.InElement.{InElement}
-use Rattle.ix_element_tables.specs.Kept.{IsPlacedIn, HasSomeLut, HasFunction, KeepsTable}
+use Rattle.ix_element_tables.specs.Kept.{HasSomeLut, KeepsTable}
 use Rattle.ix_element_tables.specs.Kept.{KeepsTableAt}
 use Rattle.ix_element_tables.specs.Noted.{HasNoLutAmong, TellsElement, AreNoted}
 

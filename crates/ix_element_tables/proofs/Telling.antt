@@ -1,10 +1,9 @@
 -- What the first break among all placements tells of L9.
-use Rattle.std.proofs.Common.{◌≡◌, ◌⊎◌, ◌<◌, ◌∙◌, refl, ap, sym, subst, ℕ, arith, List, inl, inr}
-use Rattle.std.specs.Prelude.{slice_get, length, Option, Some, None, IfSome, IsSome, is_some}
+use Rattle.std.proofs.Common.{◌≡◌, refl, ap, subst, ℕ, arith, List, inl, inr}
+use Rattle.std.specs.Prelude.{slice_get, length, Option, Some, None, IsSome, is_some}
 use Rattle.std.proofs.lemmas.Bool.{false≢true}
 use Rattle.std.proofs.lemmas.Option.{slice_get_within, get_or_from_slice_get}
 use Rattle.ix_message.specs.Shape.{Text}
-use Rattle.ix_num.specs.Numbers.{NameNumber}
 use Rattle.ix_strings.specs.Names.{AllDiffer}
 use Rattle.ix_rec.specs.declared.device.DeviceRec.{DeviceRec}
 use Rattle.ix_rec.specs.declared.device.LutCell.{LutCell}
@@ -13,7 +12,7 @@ use Rattle.ix_rec.specs.declared.phys.Phys.{Phys}
 use Rattle.ix_rec.specs.declared.phys.SiteInstance.{SiteInstance}
 use Rattle.ix_lut.specs.Tables.{TableBits}
 use Rattle.ix_legal.specs.Breaks.{asked_at, asked_where}
-use Rattle.ix_legal.specs.LutTables.{IsInElement, HasLut, IsFunction, ElementFits, TableFits}
+use Rattle.ix_legal.specs.LutTables.{IsInElement, IsFunction, ElementFits, TableFits}
 use Rattle.ix_legal.specs.LutTables.{IsTabled}
 use Rattle.ix_legal.specs.Sites.{ElementNumber, lut_cell_of}
 use Rattle.ix_legal.specs.Spots.{IsBefore, Everywhere, IsFirstBreak}
@@ -23,7 +22,7 @@ use Rattle.ix_legal.specs.declared.spot.Spot.TheVariants.{SegmentAt, PropertyAt,
 use Rattle.ix_table_keys.specs.Laws.{TableIsOne}
 use Rattle.ix_table_keys.specs.Tables.{IsNamedThere}
 use Rattle.ix_element_numbers.specs.declared.numbers.InElement.{InElement}
-use Rattle.ix_element_tables.specs.Kept.{IsPlacedIn, HasSomeLut, HasFunction, KeepsTable}
+use Rattle.ix_element_tables.specs.Kept.{HasSomeLut, HasFunction}
 use Rattle.ix_element_tables.specs.Least.{IsEarlier, IsBroken, IsLeast}
 use Rattle.ix_element_tables.proofs.Keeping.{place_of}
 

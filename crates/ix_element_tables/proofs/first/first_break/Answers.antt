@@ -1,4 +1,4 @@
-use Rattle.std.proofs.Common.{◌≡◌, ◌∙◌, subst, length, arith}
+use Rattle.std.proofs.Common.{◌≡◌, subst, length, arith}
 use Rattle.ix_element_tables.specs.Least.{IsLeast}
 use Rattle.ix_element_tables.proofs.Firsts.{none_broken}
 use Rattle.ix_element_tables.proofs.first.first_break.Goals as goal

@@ -1,5 +1,5 @@
-use Rattle.std.proofs.Common.{◌≡◌, ◌∙◌, refl, ap, sym, true, subst}
-use Rattle.std.specs.Prelude.{Some, is_some}
+use Rattle.std.proofs.Common.{◌∙◌, refl, ap, sym, subst}
+use Rattle.std.specs.Prelude.{Some}
 use Rattle.std.specs.Bool.{Decides}
 use Rattle.std.proofs.lemmas.Bool.{false≢true}
 use Rattle.ix_element_tables.specs.Kept.{KeepsTableAt}

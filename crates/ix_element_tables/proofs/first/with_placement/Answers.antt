@@ -1,4 +1,4 @@
-use Rattle.std.proofs.Common.{◌≡◌, ◌∙◌, sym}
+use Rattle.std.proofs.Common.{◌∙◌, sym}
 use Rattle.std.proofs.lemmas.Bool.{false≢true}
 use Rattle.ix_element_tables.proofs.Firsts.{later_stays, kept_stays, newly_broken}
 use Rattle.ix_element_tables.proofs.first.with_placement.Goals.{else-is_earlier-via-then-is_earlier+else-not-keeps_table, else-is_earlier-via-else-is_earlier}

@@ -1,4 +1,4 @@
-use Rattle.std.proofs.Common.{◌≡◌, subst, length}
+use Rattle.std.proofs.Common.{subst, length}
 use Rattle.ix_element_tables.specs.Least.{IsLeast}
 use Rattle.ix_element_tables.proofs.Telling.{all_tabled, first_untabled}
 use Rattle.ix_element_tables.proofs.whole.first_without_function.Goals as goal

@@ -74,12 +74,12 @@ pub(crate) fn agree(asked: Asked, a: &Side<'_>, b: &Side<'_>, name: NameId) -> b
 }
 
 /// Whether a pin is on one net in both, or on none in both.
-pub(crate) fn nets_agree(a: &Side<'_>, b: &Side<'_>, at: PinName) -> bool
+pub(crate) fn nets_agree(a: &Side<'_>, b: &Side<'_>, at: &PinName) -> bool
     requires fits_a { NumbersFit a.now.flat.now }
     requires fits_b { NumbersFit b.now.flat.now }
-    requires in_a { KnowsCell a.now.flat.now a.now.numbers.now at.cell }
-    requires in_b { KnowsCell b.now.flat.now b.now.numbers.now at.cell }
-    ensures { Decides result (AgreesAt a.now.flat.now b.now.flat.now at) }
+    requires in_a { KnowsCell a.now.flat.now a.now.numbers.now at.now.cell }
+    requires in_b { KnowsCell b.now.flat.now b.now.numbers.now at.now.cell }
+    ensures { Decides result (AgreesAt a.now.flat.now b.now.flat.now at.now) }
 {
     net_of(a, at.cell, at.pin) == net_of(b, at.cell, at.pin)
 }

@@ -1,6 +1,6 @@
 //! The earlier one of two names, or of two pins.
 
-ghost use Rattle.std.specs.Prelude.{◌≡◌, ◌<◌, length, IfSome};
+ghost use Rattle.std.specs.Prelude.{◌≡◌, ◌<◌, length, Some, IfSome};
 ghost use Rattle.std.specs.Ordering.{is_lt};
 ghost use Rattle.ix_differences.specs.Earliest.{ArePinNames, IsName, cell_order, earlier};
 ghost use Rattle.ix_differences.specs.Earliest.{pin_order};
@@ -27,10 +27,10 @@ fn is_before(names: &Names, x: NameId, y: NameId) -> bool
 }
 
 // Whether a pin comes before another one: by the names of their cells, and then by their own.
-fn is_pin_before(names: &Names, x: PinName, y: PinName) -> bool
-    requires x { ArePinNames names.now x }
-    requires y { ArePinNames names.now y }
-    ensures { result ≡ is_lt (pin_order names.now x y) }
+fn is_pin_before(names: &Names, x: &PinName, y: &PinName) -> bool
+    requires x { ArePinNames names.now x.now }
+    requires y { ArePinNames names.now y.now }
+    ensures { result ≡ is_lt (pin_order names.now x.now y.now) }
 {
     (names.name(x.cell), names.name(x.pin)) < (names.name(y.cell), names.name(y.pin))
 }
@@ -54,6 +54,19 @@ pub(crate) fn earlier_cell(
     if is_before(names, other, one) { y } else { x }
 }
 
+// The earlier one of two pins.
+fn earlier_of(names: &Names, one: PinName, other: PinName) -> PinName
+    requires one { ArePinNames names.now one }
+    requires other { ArePinNames names.now other }
+    ensures { Some result ≡ earlier (pin_order names.now) (Some one) (Some other) }
+{
+    if is_pin_before(names, &other, &one) {
+        other
+    } else {
+        one
+    }
+}
+
 /// The earlier one of two pins, where there are two.
 pub(crate) fn earlier_pin(
     names: &Names,
@@ -64,11 +77,9 @@ pub(crate) fn earlier_pin(
     requires y { IfSome y (ArePinNames names.now) }
     ensures { result ≡ earlier (pin_order names.now) x y }
 {
-    let Some(one) = x else {
-        return y;
-    };
-    let Some(other) = y else {
-        return x;
-    };
-    if is_pin_before(names, other, one) { y } else { x }
+    match (x, y) {
+        (Some(one), Some(other)) => Some(earlier_of(names, one, other)),
+        (Some(one), None) => Some(one),
+        (None, y) => y,
+    }
 }

@@ -28,7 +28,7 @@ fn first_of(names: &Names, a: &Side<'_>, b: &Side<'_>, flat: &Flat) -> Option<Pi
             cell: flat.cells.at(cell.get() as usize).name,
             pin: *pin,
         };
-        if !nets_agree(a, b, at) {
+        if !nets_agree(a, b, &at) {
             first = earlier_pin(names, first, Some(at));
         }
     }

@@ -29,12 +29,7 @@ fn is_earlier(at: InElement, other: Option<InElement>) -> bool
 
 // Whether the element of a placement has no LUT, or the table of the element gives the placed cell
 // a function. A plain cell has none.
-fn keeps_table(
-    on: &Netlist<'_>,
-    tables: &NotedTables,
-    placement: usize,
-    at: InElement,
-) -> bool
+fn keeps_table(on: &Netlist<'_>, tables: &NotedTables, placement: usize, at: InElement) -> bool
     requires ready { IsReady on.now.names.now on.now.device.now on.now.phys.now on.now.places.now
         on.now.numbers.now }
     requires ends { AreEnds on.now.device.now on.now.phys.now on.now.ends.now }

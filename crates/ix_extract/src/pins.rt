@@ -69,7 +69,7 @@ fn put_listed(
         on.now.holders.now on.now.ranks.now }
     requires at { IsPlacedAt on.now.device.now on.now.phys.now at.now.cell at.now.placement.now
         at.now.site at.now.ty }
-    requires lut { option_map (λ l. l.now) lut.entry
+    requires lut { option_map (λ l. l.now) lut
         ≡ lut_cell_of on.now.device.now at.now.placement.now.ty }
     requires list { pins_at on.now.device.now at.now.placement.now.ty at.now.placement.now.site
         at.now.placement.now.bel ≡ Some (pins_listed list.now) }
@@ -98,7 +98,7 @@ fn put_by_device(
         on.now.holders.now on.now.ranks.now }
     requires at { IsPlacedAt on.now.device.now on.now.phys.now at.now.cell at.now.placement.now
         at.now.site at.now.ty }
-    requires lut { option_map (λ l. l.now) lut.entry
+    requires lut { option_map (λ l. l.now) lut
         ≡ lut_cell_of on.now.device.now at.now.placement.now.ty }
     requires are_on { AreOn on.now.device.now on.now.phys.now pins.old }
     ensures { OnOk result (AddsPins on.now.device.now on.now.phys.now at.now.cell

@@ -1,0 +1,4 @@
+pub mod Wires
+pub mod Counting
+pub mod Finding
+pub mod Growing

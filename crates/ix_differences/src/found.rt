@@ -27,14 +27,14 @@ pub(crate) fn first_found(names: &Names, a: &Side<'_>, b: &Side<'_>) -> Option<D
     requires b { IsReady names.now b.now.flat.now b.now.numbers.now }
     ensures { IsVerdict names.now a.now.flat.now b.now.flat.now result }
 {
-    if let Some(cell) = first_cell(names, a, b) {
-        return Some(Difference::AtCell(cell));
-    }
-    if let Some(pin) = first_pin(names, a, b) {
-        return Some(Difference::AtPin(pin));
-    }
-    match first_table(names, a, b) {
-        Some(cell) => Some(Difference::AtTable(cell)),
-        None => None,
+    match first_cell(names, a, b) {
+        Some(cell) => Some(Difference::AtCell(cell)),
+        None => match first_pin(names, a, b) {
+            Some(pin) => Some(Difference::AtPin(pin)),
+            None => match first_table(names, a, b) {
+                Some(cell) => Some(Difference::AtTable(cell)),
+                None => None,
+            },
+        },
     }
 }

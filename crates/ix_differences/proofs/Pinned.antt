@@ -1,0 +1,102 @@
+-- Pins of a map.
+use Rattle.std.proofs.Common.{◌≡◌, ◌∙◌, ap, sym, refl, subst, ℕ, Bool, true, false, cond, List, []}
+use Rattle.std.proofs.Common.{◌∷◌, ◌++◌, inl, inr, append-nil}
+use Rattle.std.specs.Prelude.{◌⊎◌, slice_get, Option, Some, None}
+use Rattle.std.specs.Cmp.{Equal-is}
+use Rattle.std.specs.FinMap.{FinMap, entries, get, get-entries}
+use Rattle.std.specs.FinMap.Entries.{find}
+use Rattle.std.specs.List.{AllByRecursion}
+use Rattle.std.specs.Ordering.{eq_by_cmp}
+use Rattle.std.proofs.lemmas.List.{append_assoc}
+use Rattle.std.proofs.lemmas.Option.{none-some, same_Some}
+use Rattle.ix_num.specs.declared.resource.NetRef.{NetRef}
+use Rattle.ix_rec.specs.Maps.{pin_order, pin_order-IsAntisymmetric}
+use Rattle.ix_rec.specs.declared.flow.Flat.{Flat}
+use Rattle.ix_rec.specs.declared.flow.FlatCell.{FlatCell}
+use Rattle.ix_differences.specs.Earliest.{IsPinIn}
+use Rattle.ix_differences.specs.declared.earliest.PinName.{PinName}
+
+abbrev pub Entry : Type 0
+Entry = (ℕ × ℕ) × NetRef
+
+module _ (P : Entry → Type 0) where
+  -- what holds of all entries holds of what is found
+  pub at_found : (q : ℕ × ℕ) (net : NetRef) (es : List Entry) → AllByRecursion P es
+      → find pin_order q es ≡ Some net → P (q, net)
+  at_found q net [] all found = absurd (none-some net found)
+  at_found q net (e ∷ es) all found =
+      by (eq_by_cmp pin_order q e.0) refl (at_found q net es all.1) found
+    where
+      by : (b : Bool) → eq_by_cmp pin_order q e.0 ≡ b
+          → (find pin_order q es ≡ Some net → P (q, net))
+          → cond b (Some e.1) (find pin_order q es) ≡ Some net → P (q, net)
+      by true tied later is =
+          let key : e.0 ≡ q = sym (pin_order-IsAntisymmetric q e.0
+              ((Equal-is (pin_order q e.0)).0 tied)) in
+          let value : e.1 ≡ net = same_Some e.1 net is in
+          subst P (λ i. (key i, value i)) all.0
+      by false other later is = later is
+
+  pub at_pin : (m : FinMap pin_order NetRef) (q : ℕ × ℕ) (net : NetRef)
+      → AllByRecursion P (entries m) → get m q ≡ Some net → P (q, net)
+  at_pin m q net all found = at_found q net (entries m) all (sym (get-entries m q) ∙ found)
+
+  -- what holds of all entries holds of the one that comes next
+  pub at_next : (done : List Entry) (e : Entry) (rest : List Entry)
+      → AllByRecursion P (done ++ e ∷ rest) → P e
+  at_next [] e rest all = all.0
+  at_next (d ∷ done) e rest all = at_next done e rest all.1
+
+-- The pins of some entries, by name.
+
+abbrev pub IsPinOf : List FlatCell → PinName → Entry → Type 0
+IsPinOf cells at e = (cell : FlatCell) × (slice_get cells e.0.0 ≡ Some cell)
+    × (cell.name ≡ at.cell) × (e.0.1 ≡ at.pin)
+
+abbrev pub IsAmong : List FlatCell → List Entry → PinName → Type 0
+IsAmong cells [] at = ⊥
+IsAmong cells (e ∷ es) at = IsPinOf cells at e ⊎ IsAmong cells es at
+
+pub among_next : (cells : List FlatCell) (es : List Entry) (e : Entry) (at : PinName)
+    → IsAmong cells (es ++ e ∷ []) at → IsAmong cells es at ⊎ IsPinOf cells at e
+among_next cells [] e at among = elim among [ | inl here ↦ inr here | inr never ↦ absurd never ]
+among_next cells (d ∷ es) e at among = elim among [
+  | inl here ↦ inl (inl here)
+  | inr later ↦ elim (among_next cells es e at later) [
+    | inl before ↦ inl (inr before)
+    | inr here ↦ inr here
+  ]
+]
+
+pub among_found : (cells : List FlatCell) (at : PinName) (q : ℕ) (net : NetRef) (cell : FlatCell)
+    (es : List Entry) → slice_get cells q ≡ Some cell → cell.name ≡ at.cell
+    → find pin_order (q, at.pin) es ≡ Some net → IsAmong cells es at
+among_found cells at q net cell [] stands named found = absurd (none-some net found)
+among_found cells at q net cell (e ∷ es) stands named found =
+    by (eq_by_cmp pin_order (q, at.pin) e.0) refl
+    (among_found cells at q net cell es stands named) found
+  where
+    by : (b : Bool) → eq_by_cmp pin_order (q, at.pin) e.0 ≡ b
+        → (find pin_order (q, at.pin) es ≡ Some net → IsAmong cells es at)
+        → cond b (Some e.1) (find pin_order (q, at.pin) es) ≡ Some net
+        → IsAmong cells (e ∷ es) at
+    by true tied later is =
+        let key : e.0 ≡ (q, at.pin) = sym (pin_order-IsAntisymmetric (q, at.pin) e.0
+            ((Equal-is (pin_order (q, at.pin) e.0)).0 tied)) in
+        inl (cell, ap (λ k. slice_get cells k.0) key ∙ stands, named, ap (λ k. k.1) key)
+    by false other later is = inr (later is)
+
+-- a pin that is on a net is among all entries
+pub among_all : (flat : Flat) (at : PinName) → IsPinIn flat at
+    → IsAmong flat.cells (entries flat.pins) at
+among_all flat at on = among_found flat.cells at on.0 on.2 on.1 (entries flat.pins) on.3 on.4
+    (sym (get-entries flat.pins (on.0, at.pin)) ∙ on.5)
+
+-- entries one by one
+pub one_done : (all done rest now : List Entry) (e : Entry) → all ≡ done ++ rest
+    → rest ≡ e ∷ now → all ≡ (done ++ e ∷ []) ++ now
+one_done all done rest now e is step =
+    is ∙ ap (λ es. done ++ es) step ∙ sym (append_assoc done (e ∷ []) now)
+
+pub all_done : (all done rest : List Entry) → all ≡ done ++ rest → rest ≡ [] → all ≡ done
+all_done all done rest is none = is ∙ ap (λ es. done ++ es) none ∙ append-nil done

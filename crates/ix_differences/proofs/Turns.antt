@@ -1,7 +1,7 @@
 -- The turns of the walks over cells and over pins.
 use Rattle.std.proofs.Common.{◌≡◌, ◌<◌, ◌+◌, ◌∙◌, ap, sym, refl, subst, ℕ, Bool, true, false, List, []}
 use Rattle.std.proofs.Common.{◌∷◌, ◌++◌, length, inl, inr}
-use Rattle.std.specs.Prelude.{◌⊎◌, not, slice_get, Option, Some, None}
+use Rattle.std.specs.Prelude.{◌⊎◌, slice_get, Option, Some, None}
 use Rattle.std.specs.Bool.{Decides}
 use Rattle.std.specs.FinMap.{entries, get}
 use Rattle.std.specs.List.{AllByRecursion}
@@ -25,14 +25,9 @@ use Rattle.ix_differences.proofs.Keyed.{IsNameBelow, all_below, below_next}
 use Rattle.ix_differences.proofs.Pinned.{Entry, IsAmong, IsPinOf, all_done, among_all, among_next}
 use Rattle.ix_differences.proofs.Pinned.{at_next, at_pin, one_done}
 
--- what a test says
-pub not_so : {P : Type 0} (t : Bool) → Decides t P → not t ≡ true → ¬ P
-not_so true decides failed = absurd (false≢true failed)
-not_so false decides failed = λ p. false≢true (decides.1 p)
-
-pub is_so : {P : Type 0} (t : Bool) → Decides t P → not t ≡ false → P
-is_so true decides passed = decides.0 refl
-is_so false decides passed = absurd (false≢true (sym passed))
+-- a test that fails
+pub not_so : {P : Type 0} (t : Bool) → Decides t P → t ≡ false → ¬ P
+not_so t decides failed p = false≢true (sym failed ∙ decides.1 p)
 
 -- Cells.
 

@@ -1,6 +1,6 @@
-use Rattle.std.proofs.Common.{rules, arith, refl, length}
+use Rattle.std.proofs.Common.{◌∙◌, arith, refl}
 use Rattle.ix_differences.specs.Earliest.{AgreesOn}
-use Rattle.ix_differences.proofs.Turns.{cell_agrees, cell_differs, cells_done, is_so, not_so}
+use Rattle.ix_differences.proofs.Turns.{cell_agrees, cell_differs, cells_done, not_so}
 use Rattle.ix_differences.proofs.cells.first_of.Goals as goal
 use Rattle.ix_differences.proofs.cells.first_of.Goals.{then-not-agree, else-not-agree}
 
@@ -11,12 +11,11 @@ loop-i-preserved c = elim c.if-not-agree.branch [
       c.loop-i.i c.at.result.now.name c.at.result.now c.loop-i.first c.if-not-agree.first
       c.at.ensures refl (c.requires.named c.loop-i.i c.at.result.now c.at.ensures)
       (not_so c.agree.result c.agree.ensures w.if-not-agree.true)
-      ? c.loop-i.invariant
+      (w.first-is ∙ w.earlier_cell-first.ensures) c.loop-i.invariant
   | else-not-agree w ↦ cell_agrees c.args.names.now
       (AgreesOn c.args.asked c.args.a.now.flat.now c.args.b.now.flat.now) c.args.cells.now
       c.loop-i.i c.at.result.now.name c.at.result.now c.loop-i.first c.if-not-agree.first
-      c.at.ensures refl
-      (is_so c.agree.result c.agree.ensures w.if-not-agree.false)
+      c.at.ensures refl (c.agree.ensures.0 w.if-not-agree.false)
       w.first-is c.loop-i.invariant
 ]
 

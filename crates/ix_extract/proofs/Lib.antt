@@ -2,3 +2,5 @@ pub mod Wires
 pub mod Counting
 pub mod Finding
 pub mod Growing
+pub mod Tabling
+pub mod Fixing

@@ -1,0 +1,24 @@
+use Rattle.std.proofs.Common.{◌≡◌, ◌≤◌, ◌<◌, ◌^◌, ◌+◌, ◌∙◌, rules, refl, ap, sym, subst, arith, length}
+use Rattle.std.proofs.Common.{true, false, List}
+use Rattle.ix_rec.specs.declared.phys.NetType.TheVariants.{Signal}
+use Rattle.ix_legal.specs.Holders.{is_of_type}
+use Rattle.ix_extract.specs.Taken.{AreSignals}
+use Rattle.ix_extract.proofs.Counting.{few_signals, other_next, signal_next}
+use Rattle.ix_extract.proofs.signals.signal_nets.Goals as goal
+use Rattle.ix_extract.proofs.signals.signal_nets.Goals.{in-Signal+in_ok-push-2, in_default}
+
+pub overflow_cast-len : goal.overflow_cast-len
+overflow_cast-len c =
+    let nets = c.args.phys.now.nets in
+    let lt = c.loop-n-test.true in
+    let all = c.len-n-end.ensures in
+    let short = c.requires.small.nets in
+    let within : c.loop-n.n ≤ length nets = omega (arith, lt, all) in
+    let few = few_signals nets c.loop-n.n c.loop-n.nets c.loop-n.ranks.items within
+    c.loop-n.invariant in
+    let len = c.len.ensures in
+    let fits : c.len.result < 2 ^ 32 = omega (arith, few, within, short, len) in
+    search rules
+
+pub loop-n-preserved : goal.loop-n-preserved
+loop-n-preserved c = ?

@@ -4,10 +4,11 @@ use Rattle.std.proofs.Common.{List, [], ◌∷◌, length, map, slice_get, Optio
 use Rattle.std.proofs.Common.{option_map, option_and_then, Bool, true, false, true≢false}
 use Rattle.std.proofs.Common.{not, nat_eq, ◌&&◌, ◌||◌, if◌then◌else◌, is_some}
 use Rattle.std.specs.Prelude.{unwrap_or}
-use Rattle.std.specs.List.{find, list_any, list_all, position}
+use Rattle.std.specs.List.{AllByRecursion, find, list_any, list_all, position}
 use Rattle.std.proofs.lemmas.Bool.{eqb-true, eq-eqb}
 use Rattle.std.proofs.lemmas.Option.{none-some, same_Some, slice_get_within}
 use Rattle.ix_rec.specs.declared.device.Bel.{Bel}
+use Rattle.ix_rec.specs.declared.device.CellBelMapping.{CellBelMapping}
 use Rattle.ix_rec.specs.declared.device.CellBelPinEntry.{CellBelPinEntry}
 use Rattle.ix_rec.specs.declared.device.CommonCellBelPinMaps.{CommonCellBelPinMaps}
 use Rattle.ix_rec.specs.declared.device.DeviceRec.{DeviceRec}
@@ -18,7 +19,9 @@ use Rattle.ix_device_rules.specs.Rules.{is_new, is_pin_of, has_pin}
 use Rattle.ix_device.specs.Lookups.{in_type, bel_in, bel_pin_in, pin_of_bel, wire_in}
 use Rattle.ix_device.specs.Elements.{differ}
 use Rattle.ix_device.specs.Admission.{admitted, first_map, fits_bel, is_logic, numbered_pins}
-use Rattle.ix_device.specs.Admission.{pins_in, takes_lut, pins_differ}
+use Rattle.ix_device.specs.Admission.{lists_bel, pins_in, takes_lut, pins_differ}
+use Rattle.ix_device_read.specs.Named.{DeviceNamed, CellBelMappingNamed}
+use Rattle.ix_device_read.specs.Named.{CommonCellBelPinMapsNamed, CellBelPinEntryNamed}
 use Rattle.ix_device.proofs.OptionLemmas.{position-at, list_any-position}
 use Rattle.ix_device.proofs.Walks.{any_at}
 use Rattle.ix_legal.specs.Sites.{type_at, in_site, of_bel, pins_at, bel_pin_at, lut_cell_of}
@@ -146,6 +149,77 @@ module _ (rec : DeviceRec) (cell b : ℕ) (ty : SiteType) where
           (both_left (is_logic of.category && fits_bel ty of.name m.pins) _ test))) i e
           (ap (λ l. slice_get l i) (same_Some _ pins h) ∙ at)
 
+-- and each has a name of the device
+found_keeps : {A : Type 0} (P : A → Type 0) (test : A → Bool) (xs : List A) (x : A)
+    → AllByRecursion P xs → find test xs ≡ Some x → P x
+found_keeps P test [] x all h = absurd (none-some x h)
+found_keeps {A} P test (y ∷ ys) x all h = by (test y) h (found_keeps P test ys x all.1)
+  where
+    by : (b : Bool) → (if b then Some y else find test ys) ≡ Some x
+        → (find test ys ≡ Some x → P x) → P x
+    by true e later = subst P (same_Some y x e) all.0
+    by false e later = later e
+
+entries_named : (n : ℕ) (t : SiteType) (bel : ℕ) (entries : List CellBelPinEntry)
+    → AllByRecursion (CellBelPinEntryNamed n) entries → (i : ℕ) (e : ℕ × ℕ)
+    → slice_get (numbered_pins t bel entries) i ≡ Some e → e.0 < n
+entries_named n t bel [] all i e at = absurd (none-some e at)
+entries_named n t bel (p ∷ ps) all zero e at =
+    subst (λ k. k < n) (ap (λ (x : ℕ × ℕ). x.0) (same_Some _ e at)) all.0.cell_pin
+entries_named n t bel (p ∷ ps) all (suc i) e at = entries_named n t bel ps all.1 i e at
+
+pub pins_named : (n : ℕ) (rec : DeviceRec) (cell b : ℕ) (ty : SiteType) → DeviceNamed n rec
+    → (pins : Pins) → pins_in rec cell b ty ≡ Some pins → (i : ℕ) (e : ℕ × ℕ)
+    → slice_get pins i ≡ Some e → e.0 < n
+unfolding pins_in
+pins_named n rec cell b ty named pins is i e at =
+    let of = chained (admitted rec cell ty b) (slice_get ty.bels b) pins is in
+    let m = chained (λ (m : CommonCellBelPinMaps).
+    if is_logic of.0.category && fits_bel ty of.0.name m.pins && takes_lut rec cell ty b
+    then Some (numbered_pins ty of.0.name m.pins) else None) (first_map rec cell ty of.0.name)
+    pins of.2 in
+    let c = chained (λ (c : CellBelMapping). find (lists_bel ty of.0.name) c.common_pins)
+    (find (λ c. nat_eq c.cell cell) rec.cell_bel_map) m.0 m.1 in
+    let mapping = found_keeps (CellBelMappingNamed n) (λ (c : CellBelMapping). nat_eq c.cell cell)
+    rec.cell_bel_map c.0 named.cell_bel_map c.1 in
+    let map_named = found_keeps (CommonCellBelPinMapsNamed n) (lists_bel ty of.0.name)
+    c.0.common_pins m.0 mapping.common_pins c.2 in
+    by of.0 m.0 map_named (is_logic of.0.category && fits_bel ty of.0.name m.0.pins
+    && takes_lut rec cell ty b) m.2
+  where
+    by : (of : Bel) (m : CommonCellBelPinMaps) → CommonCellBelPinMapsNamed n m → (test : Bool)
+        → (if test then Some (numbered_pins ty of.name m.pins) else None) ≡ Some pins → e.0 < n
+    by of m all false h = absurd (none-some pins h)
+    by of m all true h = entries_named n ty of.name m.pins all.pins i e
+        (ap (λ l. slice_get l i) (same_Some _ pins h) ∙ at)
+
+-- By names.
+pub record IsAdmitted (rec : DeviceRec) (cell site bel : ℕ) (pins : Pins) : Type 0 where
+  pub t : ℕ
+  pub b : ℕ
+  pub ty : SiteType
+  pub type_is : type_at rec site ≡ Some t
+  pub ty_is : slice_get rec.site_type_list t ≡ Some ty
+  pub pins_are : pins_in rec cell b ty ≡ Some pins
+
+pub is_admitted : (rec : DeviceRec) (cell site bel : ℕ) (pins : Pins)
+    → pins_at rec cell site bel ≡ Some pins → IsAdmitted rec cell site bel pins
+is_admitted rec cell site bel pins are =
+    let u = chained (λ u. option_and_then (λ (ty : SiteType). option_and_then (λ b.
+    pins_in rec cell b ty) (bel_in bel ty)) (slice_get rec.site_type_list u))
+    (type_at rec site) pins are in
+    let ty = chained (λ (ty : SiteType). option_and_then (λ b. pins_in rec cell b ty)
+    (bel_in bel ty)) (slice_get rec.site_type_list u.0) pins u.2 in
+    let b = chained (λ b. pins_in rec cell b ty.0) (bel_in bel ty.0) pins ty.2 in
+    record {
+      t = u.0;
+      b = b.0;
+      ty = ty.0;
+      type_is = u.1;
+      ty_is = ty.1;
+      pins_are = b.2;
+    }
+
 -- Of a placement on a site of a type.
 module _ (rec : DeviceRec) (site t : ℕ) (type_is : type_at rec site ≡ Some t) where
   pub in_site_is : {A : Type 0} (tell : SiteType → Option A)
@@ -172,28 +246,20 @@ module _ (rec : DeviceRec) (site t : ℕ) (type_is : type_at rec site ≡ Some t
   -- the pins by which a BEL takes a cell
   module _ (cell bel : ℕ) (pins : Pins) (are : pins_at rec cell site bel ≡ Some pins) (i : ℕ)
       (e : ℕ × ℕ) (at : slice_get pins i ≡ Some e) where
-    found : (t b : ℕ) × (ty : SiteType) × (type_at rec site ≡ Some t)
-        × (slice_get rec.site_type_list t ≡ Some ty) × (pins_in rec cell b ty ≡ Some pins)
-    found =
-        let u = chained (λ u. option_and_then (λ (ty : SiteType). option_and_then (λ b.
-        pins_in rec cell b ty) (bel_in bel ty)) (slice_get rec.site_type_list u))
-        (type_at rec site) pins are in
-        let ty = chained (λ (ty : SiteType). option_and_then (λ b. pins_in rec cell b ty)
-        (bel_in bel ty)) (slice_get rec.site_type_list u.0) pins u.2 in
-        let b = chained (λ b. pins_in rec cell b ty.0) (bel_in bel ty.0) pins ty.2 in
-        (u.0, b.0, ty.0, u.1, ty.1, b.2)
+    found : IsAdmitted rec cell site bel pins
+    found = is_admitted rec cell site bel pins are
 
     pub listed_inside : IsBelPinOf rec t e.1
     listed_inside =
         let f = found in
-        let same : f.0 ≡ t = same_Some f.0 t (sym f.3 ∙ type_is) in
+        let same : f.t ≡ t = same_Some f.t t (sym f.type_is ∙ type_is) in
         subst (λ (o : Option SiteType). IfSome o (λ ty. e.1 < length ty.bel_pins))
-        (sym (sym (ap (slice_get rec.site_type_list) same) ∙ f.4))
-        (pins_inside rec cell f.1 f.2 pins f.5 i e at)
+        (sym (sym (ap (slice_get rec.site_type_list) same) ∙ f.ty_is))
+        (pins_inside rec cell f.b f.ty pins f.pins_are i e at)
 
     pub listed_found : find (λ p. nat_eq p.0 e.0) pins ≡ Some e
     listed_found = let f = found in
-        found_by_name pins (pins_differ_in rec cell f.1 f.2 pins f.5) i e at
+        found_by_name pins (pins_differ_in rec cell f.b f.ty pins f.pins_are) i e at
 
 -- By which map a pin goes.
 module _ (rec : DeviceRec) (placement : CellPlacement) (pin : ℕ) where

@@ -4,3 +4,5 @@ pub mod Finding
 pub mod Growing
 pub mod Tabling
 pub mod Fixing
+pub mod Entries
+pub mod Ranging

@@ -21,4 +21,14 @@ overflow_cast-len c =
     search rules
 
 pub loop-n-preserved : goal.loop-n-preserved
-loop-n-preserved c = ?
+loop-n-preserved c =
+    let nets = c.args.phys.now.nets in let net = c.at-net.result.now in
+    let ranks = c.in_ok-push.ensures.items in
+    elim c.match-net.branch [
+      | in-Signal+in_ok-push-2 w ↦
+          let next = signal_next nets c.loop-n.n net c.loop-n.nets c.loop-n.ranks.items
+          c.at-net.ensures c.loop-n.invariant (ap (is_of_type Signal) w.in-Signal.is) in ?
+      | in_default w ↦
+          let next = other_next nets c.loop-n.n net c.loop-n.nets c.loop-n.ranks.items
+          c.at-net.ensures c.loop-n.invariant ? in ?
+    ]

@@ -11,7 +11,7 @@ use Rattle.std.proofs.lemmas.Option.{slice_get_within, get_or_from_slice_get}
 use Rattle.ix_ends.proofs.Items.{into_first, into_second}
 use Rattle.ix_rec.specs.declared.flow.FlatNet.{FlatNet}
 use Rattle.ix_rec.specs.declared.phys.NetType.{NetType}
-use Rattle.ix_rec.specs.declared.phys.NetType.TheVariants.{Signal}
+use Rattle.ix_rec.specs.declared.phys.NetType.TheVariants.{Signal, Gnd, Vcc}
 use Rattle.ix_rec.specs.declared.phys.PhysNet.{PhysNet}
 use Rattle.ix_legal.specs.Holders.{is_of_type, nets_of_type}
 use Rattle.ix_extract.specs.Extracted.{net_of}
@@ -109,3 +109,14 @@ module _ (nets : List PhysNet) where
           ∙ ap (map net_of) (sym (signals_next ∙ ap (λ b. signals_to n ++ one b) other
           ∙ append-nil (signals_to n)));
     }
+
+pub signals_so : (nets : List PhysNet) (n : ℕ) (a b : List FlatNet) (r s : List ℕ) → b ≡ a
+    → s ≡ r → AreSignals nets n a r → AreSignals nets n b s
+signals_so nets n a b r s nets_same ranks_same are =
+    subst (λ l. AreSignals nets n l s) (sym nets_same)
+    (subst (AreSignals nets n a) (sym ranks_same) are)
+
+pub not_signal : (ty : NetType) → (ty ≡ Signal → ⊥) → is_of_type Signal ty ≡ false
+not_signal Signal other = absurd (other refl)
+not_signal Gnd other = refl
+not_signal Vcc other = refl

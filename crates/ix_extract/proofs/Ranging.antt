@@ -41,13 +41,13 @@ module _ {A : Type 0} (p : A → Bool) where
   -- fewer of them stand before one of them than in all
   pub fewer_before : (xs : List A) (n : ℕ) (x : A) → slice_get xs n ≡ Some x → p x ≡ true
       → length (filter p (take n xs)) < length (filter p xs)
-  fewer_before [] n x at yes = absurd (none-some x at)
-  fewer_before (y ∷ ys) zero x at yes = by (p y) (ap p (same_Some y x at) ∙ yes)
+  fewer_before [] n x at passes = absurd (none-some x at)
+  fewer_before (y ∷ ys) zero x at passes = by (p y) (ap p (same_Some y x at) ∙ passes)
     where
       by : (b : Bool) → b ≡ true → 0 < length (if b then y ∷ filter p ys else filter p ys)
       by true h = omega arith
       by false h = absurd (true≢false (sym h))
-  fewer_before (y ∷ ys) (suc n) x at yes = by (p y) (fewer_before ys n x at yes)
+  fewer_before (y ∷ ys) (suc n) x at passes = by (p y) (fewer_before ys n x at passes)
     where
       by : (b : Bool) → length (filter p (take n ys)) < length (filter p ys)
           → length (if b then y ∷ filter p (take n ys) else filter p (take n ys))

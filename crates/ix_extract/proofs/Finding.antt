@@ -14,9 +14,8 @@ use Rattle.ix_rec.specs.declared.device.CommonCellBelPinMaps.{CommonCellBelPinMa
 use Rattle.ix_rec.specs.declared.device.DeviceRec.{DeviceRec}
 use Rattle.ix_rec.specs.declared.device.SiteType.{SiteType}
 use Rattle.ix_rec.specs.declared.phys.CellPlacement.{CellPlacement}
-use Rattle.ix_rec.specs.declared.phys.PinMapping.{PinMapping}
 use Rattle.ix_device_rules.specs.Rules.{is_new, is_pin_of, has_pin}
-use Rattle.ix_device.specs.Lookups.{in_type, bel_in, bel_pin_in, pin_of_bel, wire_in}
+use Rattle.ix_device.specs.Lookups.{in_type, bel_in, pin_of_bel}
 use Rattle.ix_device.specs.Elements.{differ}
 use Rattle.ix_device.specs.Admission.{admitted, first_map, fits_bel, is_logic, numbered_pins}
 use Rattle.ix_device.specs.Admission.{lists_bel, pins_in, takes_lut, pins_differ}
@@ -24,11 +23,10 @@ use Rattle.ix_device_read.specs.Named.{DeviceNamed, CellBelMappingNamed}
 use Rattle.ix_device_read.specs.Named.{CommonCellBelPinMapsNamed, CellBelPinEntryNamed}
 use Rattle.ix_device.proofs.OptionLemmas.{position-at, list_any-position}
 use Rattle.ix_device.proofs.Walks.{any_at}
-use Rattle.ix_legal.specs.Sites.{type_at, in_site, of_bel, pins_at, bel_pin_at, lut_cell_of}
-use Rattle.ix_ends.proofs.Items.{mapped, chained}
-use Rattle.ix_pin_maps.proofs.Admission.{IsOn, pins_there, pins_differ_in}
-use Rattle.ix_extract.specs.Extracted.{bel_pin_of, by_map, is_lut_input, pin_by_device}
-use Rattle.ix_extract.specs.Extracted.{pin_by_placement, wire_of_pin}
+use Rattle.ix_legal.specs.Sites.{type_at, in_site, of_bel, pins_at, lut_cell_of}
+use Rattle.ix_ends.proofs.Items.{chained}
+use Rattle.ix_pin_maps.proofs.Admission.{IsOn, pins_differ_in}
+use Rattle.ix_extract.specs.Extracted.{bel_pin_of, by_map, is_lut_input}
 use Rattle.ix_extract.specs.Taken.{IsBelPinOf}
 
 both_left : (a b : Bool) → (a && b) ≡ true → a ≡ true

@@ -1,6 +1,6 @@
 -- Maps of pins, as they grow.
 use Rattle.std.proofs.Common.{◌≡◌, ◌≢◌, ◌⊎◌, ◌<◌, ◌≤◌, ◌+◌, ◌∙◌, refl, ap, sym, subst, ℕ, arith}
-use Rattle.std.proofs.Common.{inl, inr, List, slice_get, length, Option, Some, None, option_map}
+use Rattle.std.proofs.Common.{inl, inr, slice_get, length, Some, None, option_map}
 use Rattle.std.proofs.Common.{option_and_then, Bool, true, false, true≢false}
 use Rattle.std.specs.Prelude.{nat_eq, Result, Ok, Err, OnOk}
 use Rattle.std.specs.FinMap.{FinMap, get, empty, get-empty}
@@ -14,8 +14,7 @@ use Rattle.ix_rec.specs.declared.device.DeviceRec.{DeviceRec}
 use Rattle.ix_rec.specs.declared.device.LutCell.{LutCell}
 use Rattle.ix_rec.specs.declared.phys.CellPlacement.{CellPlacement}
 use Rattle.ix_rec.specs.declared.phys.Phys.{Phys}
-use Rattle.ix_device.specs.Lookups.{site_named, type_of_site, in_type, bel_in, wire_in}
-use Rattle.ix_device.specs.Admission.{pins_in}
+use Rattle.ix_device.specs.Lookups.{site_named, type_of_site, in_type, wire_in}
 use Rattle.ix_device.proofs.Walks.{any_at}
 use Rattle.ix_legal.specs.Holders.{Holds}
 use Rattle.ix_legal.specs.Sites.{type_at, in_site, lut_cell_of, pins_at}

@@ -1,9 +1,8 @@
 -- The numbers of a design that a netlist realizes are in range.
-use Rattle.std.proofs.Common.{◌≡◌, ◌<◌, ◌≤◌, ◌∙◌, refl, ap, sym, subst, ℕ, zero, suc, arith, inl, inr}
-use Rattle.std.proofs.Common.{List, [], ◌∷◌, length, map, take, slice_get, Option, Some, None}
-use Rattle.std.proofs.Common.{option_map, option_and_then, Bool, true, false, if◌then◌else◌, IfSome, true≢false}
+use Rattle.std.proofs.Common.{◌≡◌, ◌<◌, ◌∙◌, refl, ap, sym, subst, ℕ, zero, suc, arith, inl, inr}
+use Rattle.std.proofs.Common.{List, [], ◌∷◌, length, take, slice_get, Option, Some, None}
+use Rattle.std.proofs.Common.{option_map, Bool, true, false, if◌then◌else◌, IfSome, true≢false}
 use Rattle.std.specs.Prelude.{nat_eq, Result, Ok, Err, IfOk}
-use Rattle.std.specs.FinMap.{get, entries}
 use Rattle.std.specs.List.{All, filter, find}
 use Rattle.std.proofs.lemmas.Bool.{eqb-true}
 use Rattle.std.proofs.lemmas.List.{length-map}
@@ -24,7 +23,7 @@ use Rattle.ix_rec.specs.declared.phys.NetType.TheVariants.{Signal, Gnd, Vcc}
 use Rattle.ix_rec.specs.declared.phys.Phys.{Phys}
 use Rattle.ix_rec.specs.declared.phys.PhysNet.{PhysNet}
 use Rattle.ix_rec.specs.declared.phys.PinMapping.{PinMapping}
-use Rattle.ix_device.specs.Lookups.{site_named, sites_of, wire_in}
+use Rattle.ix_device.specs.Lookups.{sites_of, wire_in}
 use Rattle.ix_device.proofs.OptionLemmas.{position-at}
 use Rattle.ix_device_read.specs.Named.{DeviceNamed}
 use Rattle.ix_flat.specs.Range.{IsCellOf, IsNetOf, IsDriverOf, IsDriverNamed, IsInRange, IsNamed}

@@ -1,12 +1,12 @@
 -- The truth tables of placed LUTs.
-use Rattle.std.proofs.Common.{◌≡◌, ◌≢◌, ◌⊎◌, ◌↔◌, ◌<◌, ◌≤◌, ◌+◌, ◌∙◌, refl, ap, sym, subst, ℕ}
+use Rattle.std.proofs.Common.{◌≡◌, ◌≢◌, ◌⊎◌, ◌<◌, ◌≤◌, ◌+◌, ◌∙◌, refl, ap, sym, subst, ℕ}
 use Rattle.std.proofs.Common.{arith, inl, inr, List, slice_get, length, Option, Some, None}
 use Rattle.std.proofs.Common.{option_map, Bool, true, false, true≢false}
 use Rattle.std.specs.FinMap.{FinMap, get, empty, get-empty}
 use Rattle.std.specs.Ordering.{nat_cmp}
 use Rattle.std.specs.Prelude.{is_some, not}
 use Rattle.std.proofs.lemmas.Bool.{cases_lt}
-use Rattle.std.proofs.lemmas.Option.{none-some, same_Some, slice_get_within}
+use Rattle.std.proofs.lemmas.Option.{none-some, same_Some}
 use Rattle.ix_message.specs.Shape.{Text}
 use Rattle.ix_strings.specs.Names.{AllDiffer}
 use Rattle.ix_rec.specs.declared.device.DeviceRec.{DeviceRec}

@@ -1,6 +1,6 @@
 -- Which net holds a wire.
-use Rattle.std.proofs.Common.{◌≡◌, ◌<◌, ◌∙◌, refl, ap, sym, subst, ℕ, arith, inl, inr}
-use Rattle.std.proofs.Common.{List, length, slice_get, Option, Some, None, option_map}
+use Rattle.std.proofs.Common.{◌≡◌, ◌∙◌, refl, ap, sym, subst, ℕ, arith, inl, inr}
+use Rattle.std.proofs.Common.{List, slice_get, Option, Some, None, option_map}
 use Rattle.std.proofs.Common.{option_and_then}
 use Rattle.std.proofs.lemmas.Option.{none-some, same_Some, slice_get_within}
 use Rattle.ix_num.specs.declared.resource.NetRef.{NetRef}

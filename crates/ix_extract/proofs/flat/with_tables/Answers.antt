@@ -1,4 +1,4 @@
-use Rattle.std.proofs.Common.{refl, slice_get, Some}
+use Rattle.std.proofs.Common.{refl}
 use Rattle.std.proofs.lemmas.Option.{slice_get_within}
 use Rattle.ix_extract.proofs.flat.with_tables.Goals as goal
 

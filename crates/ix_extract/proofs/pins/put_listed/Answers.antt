@@ -1,4 +1,4 @@
-use Rattle.std.proofs.Common.{◌≡◌, ◌≤◌, ◌+◌, ◌∙◌, ap, sym, subst, arith, length, Option}
+use Rattle.std.proofs.Common.{◌≤◌, ◌+◌, ◌∙◌, ap, sym, subst, arith, length, Option}
 use Rattle.ix_device.specs.PinsListed.{pins_listed}
 use Rattle.ix_rec.specs.declared.device.LutCell.{LutCell}
 use Rattle.ix_extract.specs.Extracted.{is_lut_input}

@@ -1,4 +1,4 @@
-use Rattle.std.proofs.Common.{◌≡◌, ◌∙◌, ℕ, ap, sym, subst, Some}
+use Rattle.std.proofs.Common.{◌≡◌, ◌∙◌, ap, sym, subst}
 use Rattle.std.specs.FinMap.{get}
 use Rattle.ix_extract.specs.Extracted.{IsPinOn}
 use Rattle.ix_placed_luts.proofs.Sites.{wire_in_site}

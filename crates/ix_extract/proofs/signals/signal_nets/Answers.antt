@@ -1,4 +1,4 @@
-use Rattle.std.proofs.Common.{◌≡◌, ◌≤◌, ◌<◌, ◌^◌, ◌+◌, ◌∙◌, rules, refl, ap, sym, subst, arith, length}
+use Rattle.std.proofs.Common.{◌≤◌, ◌<◌, ◌^◌, ◌+◌, ◌∙◌, rules, ap, arith, length}
 use Rattle.std.proofs.Common.{◌++◌, [], ◌∷◌}
 use Rattle.ix_rec.specs.declared.phys.NetType.TheVariants.{Signal}
 use Rattle.ix_legal.specs.Holders.{is_of_type}

@@ -222,8 +222,8 @@ is_admitted rec cell site bel pins are =
 module _ (rec : DeviceRec) (site t : ℕ) (type_is : type_at rec site ≡ Some t) where
   pub in_site_is : {A : Type 0} (tell : SiteType → Option A)
       → in_site rec site tell ≡ in_type tell rec t
-  in_site_is tell = ap (option_and_then (λ u. option_and_then tell (slice_get rec.site_type_list u)))
-      type_is
+  in_site_is tell = ap (option_and_then (λ u. option_and_then tell
+      (slice_get rec.site_type_list u))) type_is
 
   -- a BEL of this name, by number
   pub on_bel : (bel b : ℕ) → in_type (bel_in bel) rec t ≡ Some b → IsOn rec site bel t b

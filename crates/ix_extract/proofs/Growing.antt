@@ -183,8 +183,8 @@ module _ (rec : DeviceRec) (phys : Phys) where
         → (pin : ℕ) × (bel_pin_of rec placement name ≡ Some pin)
     on_pin name net is =
         let w = on_wire name net is in
-        let p = chained (λ p. in_site rec placement.site (wire_in p)) (bel_pin_of rec placement name)
-        w.0 w.1 in
+        let p = chained (λ p. in_site rec placement.site (wire_in p))
+        (bel_pin_of rec placement name) w.0 w.1 in
         (p.0, p.1)
 
     pub no_pin : (name : ℕ) (net : NetRef) → bel_pin_of rec placement name ≡ None

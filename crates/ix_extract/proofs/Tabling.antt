@@ -187,8 +187,8 @@ module _ (names : List Text) (rec : DeviceRec) (phys : Phys) where
             let same : q ≡ cell = omega (arith, lt, le) in
             let its : other ≡ placement = same_Some other placement (sym at
             ∙ ap (slice_get phys.placements) same ∙ stands) in
-            absurd (none-some lut (sym (ap (λ (p : CellPlacement). lut_cell_of rec p.ty) its ∙ plain)
-            ∙ lut_is))
+            absurd (none-some lut (sym (ap (λ (p : CellPlacement). lut_cell_of rec p.ty) its
+            ∙ plain) ∙ lut_is))
 
     -- a LUT has its own
     pub table_next : FunctionIsOne → TableIsOne → AllDiffer names → IsNamedThere names phys

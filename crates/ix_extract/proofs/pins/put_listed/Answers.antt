@@ -4,7 +4,8 @@ use Rattle.ix_rec.specs.declared.device.LutCell.{LutCell}
 use Rattle.ix_extract.specs.Extracted.{is_lut_input}
 use Rattle.ix_extract.specs.Taken.{AddsPins, IsListed}
 use Rattle.ix_extract.proofs.Finding.{listed_inside}
-use Rattle.ix_extract.proofs.Growing.{all_listed, listed_next, listed_passed, listed_pin, type_there}
+use Rattle.ix_extract.proofs.Growing.{all_listed, listed_next, listed_passed, listed_pin}
+use Rattle.ix_extract.proofs.Growing.{type_there}
 use Rattle.ix_extract.proofs.pins.put_listed.Goals as goal
 use Rattle.ix_extract.proofs.pins.put_listed.Goals.{then-not-is_lut_input+in_ok-put_pin}
 use Rattle.ix_extract.proofs.pins.put_listed.Goals.{else-not-is_lut_input}

@@ -5,8 +5,8 @@ use Rattle.ix_extract.proofs.pins.put_placed.Goals as goal
 pub returns-in-None : goal.returns-in-None
 returns-in-None c =
     let at = c.args.at.now in
-    on_ok c.put_by_device.result (plain_whole c.args.on.now.device.now c.args.on.now.phys.now at.cell
-    at.placement.now at.site at.ty c.requires.at (sym c.cell.ensures.cell
+    on_ok c.put_by_device.result (plain_whole c.args.on.now.device.now c.args.on.now.phys.now
+    at.cell at.placement.now at.site at.ty c.requires.at (sym c.cell.ensures.cell
     ∙ ap (option_map (λ x. x.now)) c.in-None.is) c.args.pins.now c.put_by_device.new.pins)
     c.put_by_device.ensures
 

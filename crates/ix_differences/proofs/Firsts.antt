@@ -36,6 +36,17 @@ module _ {K : Type 0} (R : K → K → Ordering) (Named Agrees : K → Type 0) w
     ];
   }
 
+  -- where they agree by another word
+  pub by_word : (Other Seen : K → Type 0) (first : Option K) → ((k : K) → Agrees k → Other k)
+      → ((k : K) → Other k → Agrees k) → IsEarliest R Named Agrees Seen first
+      → IsEarliest R Named Other Seen first
+  by_word Other Seen None to from h = λ k seen. to k (h k seen)
+  by_word Other Seen (Some key) to from h = record {
+    named = h.named;
+    differs = λ other. h.differs (from key other);
+    agrees_before = λ k seen less. to k (h.agrees_before k seen less);
+  }
+
   module _ (o : IsTotalOrder R) where
     never_less : (k : K) → R k k ≡ Less → ⊥
     never_less k less = subst (λ r. T (is_eq r)) (sym (tied_itself o k) ∙ less) tt
@@ -116,8 +127,3 @@ module _ {K : Type 0} (R : K → K → Ordering) (Named Agrees : K → Type 0) w
         | inl seen ↦ inl seen
         | inr same ↦ inr (subst Agrees (sym same) agrees)
       ]) h
-
-  -- what is found has a name
-  pub names_first : (Seen : K → Type 0) (key : K) → IsEarliest R Named Agrees Seen (Some key)
-      → Named key
-  names_first Seen key h = h.named

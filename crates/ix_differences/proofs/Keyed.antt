@@ -1,17 +1,19 @@
 -- Cells by name.
 use Rattle.std.proofs.Common.{◌≡◌, ◌≢◌, ◌<◌, ◌≤◌, ◌+◌, ◌^◌, ◌∙◌, ap, sym, refl, subst, ℕ, zero, suc}
 use Rattle.std.proofs.Common.{arith, Bool, true, false, List, [], ◌∷◌, length, take, map, inl, inr}
-use Rattle.std.specs.Prelude.{◌⊎◌, ◌||◌, nat_eq, slice_get, Option, Some, None, option_map}
+use Rattle.std.specs.Prelude.{◌⊎◌, ◌||◌, nat_eq, slice_get, Option, Some, None, is_some, option_map}
 use Rattle.std.specs.List.{AllByRecursion, IsDistinct, list_any, position}
 use Rattle.std.proofs.Math.Seq.{take-length}
-use Rattle.std.proofs.lemmas.Bool.{cases_lt, eqb-true, false≢true}
+use Rattle.std.proofs.lemmas.Bool.{cases_lt, eq-eqb, eqb-true, false≢true}
 use Rattle.std.proofs.lemmas.List.{length-map}
 use Rattle.std.proofs.lemmas.Map.Steps.{length-le_from_distinct_below}
-use Rattle.std.proofs.lemmas.Option.{none-some, same_Some, slice_get_within}
+use Rattle.std.proofs.lemmas.Option.{same_Some, slice_get-map, slice_get_within}
 use Rattle.ix_device.proofs.FirstPlaces.{one_more_place}
-use Rattle.ix_device.proofs.OptionLemmas.{position-at}
+use Rattle.ix_device.proofs.OptionLemmas.{list_any-position, position-at}
+use Rattle.ix_device.proofs.Walks.{any_at}
 use Rattle.ix_first.specs.First.{value_of, or_later}
 use Rattle.ix_first.specs.declared.by_id.FirstById.{FirstById}
+use Rattle.ix_flat.specs.Whole.{AllDiffer}
 use Rattle.ix_num.specs.Numbers.{NameNumber}
 use Rattle.ix_rec.specs.declared.flow.FlatCell.{FlatCell}
 use Rattle.ix_differences.specs.Differences.{is_of_name}
@@ -60,6 +62,27 @@ found_named cells name place found =
     let at = position-at (is_of_name name) cells place found in
     (at.0, at.1, eqb-true (at.0).name name at.2)
 
+-- where the names differ each cell is what is found by its name
+pub named_here : (cells : List FlatCell) (q : ℕ) (cell : FlatCell)
+    → AllDiffer (map (λ cell. cell.name) cells) → slice_get cells q ≡ Some cell
+    → position (is_of_name cell.name) cells ≡ Some q
+named_here cells q cell differ at = by (position (is_of_name cell.name) cells) refl
+  where
+    name_at : (p : ℕ) (x : FlatCell) → slice_get cells p ≡ Some x → x.name ≡ cell.name
+        → slice_get (map (λ cell. cell.name) cells) p ≡ Some cell.name
+    name_at p x at_p same = slice_get-map (λ cell. cell.name) cells p
+        ∙ ap (option_map (λ cell. cell.name)) at_p ∙ ap Some same
+
+    by : (found : Option ℕ) → position (is_of_name cell.name) cells ≡ found
+        → position (is_of_name cell.name) cells ≡ Some q
+    by (Some p) found =
+        let there = found_named cells cell.name p found in
+        found ∙ ap Some (differ p q cell.name (name_at p there.0 there.1 there.2)
+        (name_at q cell at refl))
+    by None found = absurd (false≢true
+        (sym (list_any-position (is_of_name cell.name) cells ∙ ap is_some found)
+        ∙ any_at (is_of_name cell.name) cells q cell at (eq-eqb cell.name cell.name refl)))
+
 -- The names of the first so many cells.
 abbrev pub IsNameBelow : List FlatCell → (i : ℕ) → NameNumber → Type 0
 IsNameBelow cells i name = (q : ℕ) × (cell : FlatCell) × (q < i)
@@ -96,9 +119,6 @@ apart x y differ = by (nat_eq x y) (λ e. differ (eqb-true x y e))
     by true never = absurd (never refl)
     by false never = refl
 
-abbrev Differ : List ℕ → Type 0
-Differ xs = (i j x : ℕ) → slice_get xs i ≡ Some x → slice_get xs j ≡ Some x → i ≡ j
-
 each_other : (x : ℕ) (xs : List ℕ) → ((j : ℕ) → slice_get xs j ≡ Some x → ⊥)
     → AllByRecursion (λ y. nat_eq x y ≡ false) xs
 each_other x [] never = tt
@@ -107,7 +127,7 @@ each_other x (y ∷ ys) never = (
   each_other x ys (λ j at. never (suc j) at),
 )
 
-distinct : (xs : List ℕ) → Differ xs → IsDistinct nat_eq xs
+distinct : (xs : List ℕ) → AllDiffer xs → IsDistinct nat_eq xs
 unfolding IsDistinct
 distinct [] differ = tt
 distinct (x ∷ xs) differ = (
@@ -123,7 +143,7 @@ distinct (x ∷ xs) differ = (
 
 pub no_more_than_names : (cells : List FlatCell) (names : ℕ)
     → ((q : ℕ) (cell : FlatCell) → slice_get cells q ≡ Some cell → cell.name < names)
-    → Differ (map (λ cell. cell.name) cells) → length cells ≤ names
+    → AllDiffer (map (λ cell. cell.name) cells) → length cells ≤ names
 no_more_than_names cells names named differ = rw (sym (length-map cells (λ cell. cell.name)))
     (length-le_from_distinct_below (map (λ cell. cell.name) cells) names
     (distinct (map (λ cell. cell.name) cells) differ) (below cells named))

@@ -1,16 +1,19 @@
 -- Pins of a map.
 use Rattle.std.proofs.Common.{◌≡◌, ◌∙◌, ap, sym, refl, subst, ℕ, Bool, true, false, cond, List, []}
-use Rattle.std.proofs.Common.{◌∷◌, ◌++◌, inl, inr, append-nil}
+use Rattle.std.proofs.Common.{◌∷◌, ◌++◌, ◌&&◌, T, inl, inr, append-nil}
 use Rattle.std.specs.Prelude.{◌⊎◌, slice_get, Option, Some, None}
 use Rattle.std.specs.Cmp.{Equal-is}
-use Rattle.std.specs.FinMap.{FinMap, entries, get, get-entries}
-use Rattle.std.specs.FinMap.Entries.{find}
+use Rattle.std.specs.declared.cmp.Ordering.{Ordering}
+use Rattle.std.specs.declared.cmp.Ordering.TheVariants.{Less, Equal, Greater}
+use Rattle.std.specs.FinMap.{FinMap, entries, entries_sorted, get, get-entries}
+use Rattle.std.specs.FinMap.Entries.{below_all, find, is_sorted}
 use Rattle.std.specs.List.{AllByRecursion}
-use Rattle.std.specs.Ordering.{eq_by_cmp}
+use Rattle.std.specs.Ordering.{eq_by_cmp, is_eq, is_lt, ordering_reverse}
+use Rattle.std.proofs.lemmas.Cmp.{tied_itself}
 use Rattle.std.proofs.lemmas.List.{append_assoc}
 use Rattle.std.proofs.lemmas.Option.{none-some, same_Some}
 use Rattle.ix_num.specs.declared.resource.NetRef.{NetRef}
-use Rattle.ix_rec.specs.Maps.{pin_order, pin_order-IsAntisymmetric}
+use Rattle.ix_rec.specs.Maps.{pin_order, pin_order-IsAntisymmetric, pin_order_total}
 use Rattle.ix_rec.specs.declared.flow.Flat.{Flat}
 use Rattle.ix_rec.specs.declared.flow.FlatCell.{FlatCell}
 use Rattle.ix_differences.specs.Earliest.{IsPinIn}
@@ -46,6 +49,47 @@ module _ (P : Entry → Type 0) where
       → AllByRecursion P (done ++ e ∷ rest) → P e
   at_next [] e rest all = all.0
   at_next (d ∷ done) e rest all = at_next done e rest all.1
+
+-- An entry of a map is what is found under its key.
+
+both_left : (a b : Bool) → T (a && b) → T a
+both_left true b h = tt
+both_left false b h = h
+
+both_right : (a b : Bool) → T (a && b) → T b
+both_right true b h = h
+both_right false b h = absurd h
+
+below_there : (key : ℕ × ℕ) (done : List Entry) (e : Entry) (rest : List Entry)
+    → T (below_all pin_order key (done ++ e ∷ rest)) → T (is_lt (pin_order key e.0))
+below_there key [] e rest below = both_left (is_lt (pin_order key e.0)) _ below
+below_there key (d ∷ done) e rest below = below_there key done e rest
+    (both_right (is_lt (pin_order key d.0)) _ below)
+
+found_there : (done : List Entry) (e : Entry) (rest : List Entry)
+    → T (is_sorted pin_order (done ++ e ∷ rest))
+    → find pin_order e.0 (done ++ e ∷ rest) ≡ Some e.1
+found_there [] e rest sorted = ap (λ r. cond (is_eq r) (Some e.1) (find pin_order e.0 rest))
+    (tied_itself pin_order_total e.0)
+found_there (d ∷ done) e rest sorted =
+    by (pin_order d.0 e.0) refl
+    (below_there d.0 done e rest (both_left (below_all pin_order d.0 (done ++ e ∷ rest)) _ sorted))
+    (found_there done e rest
+    (both_right (below_all pin_order d.0 (done ++ e ∷ rest)) _ sorted))
+  where
+    by : (r : Ordering) → pin_order d.0 e.0 ≡ r → T (is_lt r)
+        → find pin_order e.0 (done ++ e ∷ rest) ≡ Some e.1
+        → find pin_order e.0 (d ∷ (done ++ e ∷ rest)) ≡ Some e.1
+    by Less is less found = ap (λ r. cond (is_eq r) (Some d.1)
+        (find pin_order e.0 (done ++ e ∷ rest)))
+        (pin_order_total.antisymm e.0 d.0 ∙ ap ordering_reverse is) ∙ found
+    by Equal is less found = absurd less
+    by Greater is less found = absurd less
+
+pub got_there : (m : FinMap pin_order NetRef) (done : List Entry) (e : Entry) (rest : List Entry)
+    → entries m ≡ done ++ e ∷ rest → get m e.0 ≡ Some e.1
+got_there m done e rest is = get-entries m e.0 ∙ ap (find pin_order e.0) is
+    ∙ found_there done e rest (subst (λ es. T (is_sorted pin_order es)) is (entries_sorted m))
 
 -- The pins of some entries, by name.
 

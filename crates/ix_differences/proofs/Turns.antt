@@ -1,29 +1,32 @@
 -- The turns of the walks over cells and over pins.
 use Rattle.std.proofs.Common.{◌≡◌, ◌<◌, ◌+◌, ◌∙◌, ap, sym, refl, subst, ℕ, Bool, true, false, List, []}
-use Rattle.std.proofs.Common.{◌∷◌, ◌++◌, length, inl, inr}
-use Rattle.std.specs.Prelude.{◌⊎◌, slice_get, Option, Some, None}
+use Rattle.std.proofs.Common.{◌∷◌, ◌++◌, length, map, inl, inr}
+use Rattle.std.specs.Prelude.{◌⊎◌, slice_get, Option, Some, None, option_and_then}
 use Rattle.std.specs.Bool.{Decides}
 use Rattle.std.specs.FinMap.{entries, get}
 use Rattle.std.specs.List.{AllByRecursion}
 use Rattle.std.proofs.lemmas.Bool.{false≢true}
 use Rattle.std.proofs.lemmas.Option.{same_Some}
 use Rattle.ix_flat.specs.Range.{IsCellOf, IsNamed, IsNetOf, NumbersFit}
+use Rattle.ix_flat.specs.Whole.{AllDiffer}
 use Rattle.ix_message.specs.Shape.{Text}
 use Rattle.ix_num.specs.Numbers.{NameNumber}
 use Rattle.ix_num.specs.declared.resource.NetRef.{NetRef}
 use Rattle.ix_rec.specs.declared.flow.Flat.{Flat}
 use Rattle.ix_rec.specs.declared.flow.FlatCell.{FlatCell}
 use Rattle.ix_differences.specs.Differences.{AgreesOnCell, AgreesOnTable, AllCellsAgree}
+use Rattle.ix_differences.specs.Differences.{named_net, net_at}
 use Rattle.ix_differences.specs.Earliest.{AgreesAt, ArePinNames, IsEarliest, IsName, IsNameIn}
 use Rattle.ix_differences.specs.Earliest.{IsPinIn, cell_order, earlier, pin_order}
 use Rattle.ix_differences.specs.Found.{Any}
 use Rattle.ix_differences.specs.declared.earliest.PinName.{PinName}
+use Rattle.ix_differences.specs.declared.named_net.NamedNet.{NamedNet}
 use Rattle.ix_differences.proofs.Differing.{cells_seen, pins_seen, tables_seen}
-use Rattle.ix_differences.proofs.Firsts.{cell_order_total, joined, none_more, one_more}
+use Rattle.ix_differences.proofs.Firsts.{by_word, cell_order_total, joined, none_more, one_more}
 use Rattle.ix_differences.proofs.Firsts.{pin_order_total, wider}
-use Rattle.ix_differences.proofs.Keyed.{IsNameBelow, all_below, below_next}
+use Rattle.ix_differences.proofs.Keyed.{IsNameBelow, all_below, below_next, named_here}
 use Rattle.ix_differences.proofs.Pinned.{Entry, IsAmong, IsPinOf, all_done, among_all, among_next}
-use Rattle.ix_differences.proofs.Pinned.{at_next, at_pin, one_done}
+use Rattle.ix_differences.proofs.Pinned.{at_next, at_pin, got_there, one_done}
 
 -- a test that fails
 pub not_so : {P : Type 0} (t : Bool) → Decides t P → t ≡ false → ¬ P
@@ -85,7 +88,7 @@ pub net_there : (flat : Flat) (cell pin : ℕ) (net : NetRef) → NumbersFit fla
 net_there flat cell pin net fits found =
     (at_pin (λ e. IsCellOf flat e.0.0 × IsNetOf flat e.1) flat.pins (cell, pin) net fits.pins found).1
 
--- the entry that comes next is of a cell and of a name
+-- the entry that comes next is of a cell, on a net, and of a name
 pub cell_there : (flat : Flat) (rest now : List Entry) (done : List Entry) (e : Entry)
     → NumbersFit flat → entries flat.pins ≡ done ++ rest → rest ≡ e ∷ now
     → e.0.0 < length flat.cells
@@ -93,6 +96,41 @@ cell_there flat rest now done e fits is step =
     (at_next (λ e. IsCellOf flat e.0.0 × IsNetOf flat e.1) done e now
     (subst (AllByRecursion (λ e. IsCellOf flat e.0.0 × IsNetOf flat e.1))
     (is ∙ ap (λ es. done ++ es) step) fits.pins)).0
+
+pub next_net_there : (flat : Flat) (rest now : List Entry) (done : List Entry) (e : Entry)
+    → NumbersFit flat → entries flat.pins ≡ done ++ rest → rest ≡ e ∷ now → IsNetOf flat e.1
+next_net_there flat rest now done e fits is step =
+    (at_next (λ e. IsCellOf flat e.0.0 × IsNetOf flat e.1) done e now
+    (subst (AllByRecursion (λ e. IsCellOf flat e.0.0 × IsNetOf flat e.1))
+    (is ∙ ap (λ es. done ++ es) step) fits.pins)).1
+
+-- and it is what the design says of its pin
+own_net : (flat : Flat) (rest now : List Entry) (done : List Entry) (e : Entry) (cell : FlatCell)
+    (net : NamedNet) → AllDiffer (map (λ cell. cell.name) flat.cells)
+    → entries flat.pins ≡ done ++ rest → rest ≡ e ∷ now → slice_get flat.cells e.0.0 ≡ Some cell
+    → named_net flat e.1 ≡ Some net → net_at flat cell.name e.0.1 ≡ Some net
+own_net flat rest now done e cell net differ is step at told =
+    ap (option_and_then (λ c. option_and_then (named_net flat) (get flat.pins (c, e.0.1))))
+    (named_here flat.cells e.0.0 cell differ at)
+    ∙ ap (option_and_then (named_net flat)) (got_there flat.pins done e now
+    (is ∙ ap (λ es. done ++ es) step)) ∙ told
+
+-- so the test of the other design's net says whether they agree there
+module _ (own other : Flat) (rest now : List Entry) (done : List Entry) (e : Entry)
+    (cell : FlatCell) (net : NamedNet) (t : Bool)
+    (differ : AllDiffer (map (λ cell. cell.name) own.cells))
+    (is : entries own.pins ≡ done ++ rest) (step : rest ≡ e ∷ now)
+    (at : slice_get own.cells e.0.0 ≡ Some cell) (told : named_net own e.1 ≡ Some net)
+    (decides : Decides t (net_at other cell.name e.0.1 ≡ Some net)) where
+  pub nets_agree : t ≡ true
+      → AgreesAt own other (record { cell = cell.name; pin = e.0.1 })
+  nets_agree passed = own_net own rest now done e cell net differ is step at told
+      ∙ sym (decides.0 passed)
+
+  pub nets_differ : t ≡ false
+      → ¬ AgreesAt own other (record { cell = cell.name; pin = e.0.1 })
+  nets_differ failed agrees = false≢true (sym failed ∙ decides.1
+      (sym agrees ∙ own_net own rest now done e cell net differ is step at told))
 
 pub names_there : (names : List Text) (flat : Flat) (rest now : List Entry) (done : List Entry)
     (e : Entry) (cell : FlatCell) → IsNamed (length names) flat
@@ -165,7 +203,7 @@ module _ (names : List Text) (Agrees : PinName → Type 0) (flat : Flat) where
 
 pub first_pin_is : (names : List Text) (a b : Flat) (x y first : Option PinName)
     → IsEarliest (pin_order names) (ArePinNames names) (AgreesAt a b) (IsPinIn a) x
-    → IsEarliest (pin_order names) (ArePinNames names) (AgreesAt a b) (IsPinIn b) y
+    → IsEarliest (pin_order names) (ArePinNames names) (AgreesAt b a) (IsPinIn b) y
     → first ≡ earlier (pin_order names) x y
     → IsEarliest (pin_order names) (ArePinNames names) (AgreesAt a b) Any first
 first_pin_is names a b x y first in_a in_b is =
@@ -174,4 +212,6 @@ first_pin_is names a b x y first in_a in_b is =
     (λ k. IsPinIn a k ⊎ IsPinIn b k) Any (earlier (pin_order names) x y)
     (λ k any. pins_seen a b k)
     (joined (pin_order names) (ArePinNames names) (AgreesAt a b) (pin_order_total names)
-    (IsPinIn a) (IsPinIn b) x y in_a in_b))
+    (IsPinIn a) (IsPinIn b) x y in_a
+    (by_word (pin_order names) (ArePinNames names) (AgreesAt b a) (AgreesAt a b) (IsPinIn b) y
+    (λ k agrees. sym agrees) (λ k agrees. sym agrees) in_b)))

@@ -2,14 +2,12 @@
 
 ghost use Rattle.std.specs.Prelude.{◌≡◌, ◌<◌, length, Some, IfSome};
 ghost use Rattle.std.specs.Bool.{Decides};
-ghost use Rattle.ix_differences.specs.Differences.{AgreesOnCell, AgreesOnPin, AgreesOnTable};
+ghost use Rattle.ix_differences.specs.Differences.{AgreesOnCell, AgreesOnTable};
 ghost use Rattle.ix_differences.specs.Differences.{site_at};
-ghost use Rattle.ix_differences.specs.Earliest.{AgreesOn, AgreesAt};
+ghost use Rattle.ix_differences.specs.Earliest.{AgreesOn};
 ghost use Rattle.ix_differences.specs.Numbers.{KnowsCell};
-ghost use Rattle.ix_flat.specs.Range.{NumbersFit};
 
-use crate::earliest::PinName;
-use crate::looks::{Side, net_of, site_of, table_of, type_of};
+use crate::side::{Side, site_of, table_of, type_of};
 use ix_num::NameId;
 use ix_rec::TruthTable;
 
@@ -71,15 +69,4 @@ pub(crate) fn agree(asked: Asked, a: &Side<'_>, b: &Side<'_>, name: NameId) -> b
         Asked::Cells => cells_agree(a, b, name),
         Asked::Tables => tables_agree(a, b, name),
     }
-}
-
-/// Whether a pin is on one net in both, or on none in both.
-pub(crate) fn nets_agree(a: &Side<'_>, b: &Side<'_>, at: &PinName) -> bool
-    requires fits_a { NumbersFit a.now.flat.now }
-    requires fits_b { NumbersFit b.now.flat.now }
-    requires in_a { KnowsCell a.now.flat.now a.now.numbers.now at.now.cell }
-    requires in_b { KnowsCell b.now.flat.now b.now.numbers.now at.now.cell }
-    ensures { Decides result (AgreesAt a.now.flat.now b.now.flat.now at.now) }
-{
-    net_of(a, at.cell, at.pin) == net_of(b, at.cell, at.pin)
 }

@@ -9,7 +9,7 @@ ghost use Rattle.ix_differences.specs.Numbers.{IsReady};
 
 use crate::agrees::{Asked, agree};
 use crate::earliest::earlier_cell;
-use crate::looks::Side;
+use crate::side::Side;
 use ix_num::NameId;
 use ix_rec::{FlatCell, Items};
 use ix_strings::Names;

@@ -6,11 +6,11 @@ mod agrees;
 mod cells;
 mod earliest;
 mod found;
-mod looks;
 mod named_net;
 mod numbers;
 mod pins;
 mod place;
+mod side;
 mod whole;
 
 pub use whole::first_difference;

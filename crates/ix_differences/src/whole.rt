@@ -6,7 +6,7 @@ ghost use Rattle.ix_flat.specs.Whole.{AllDiffer};
 ghost use Rattle.ix_differences.specs.Differences.{IsAnswer};
 
 use crate::found::first_found;
-use crate::looks::Side;
+use crate::side::Side;
 use crate::numbers::numbers_of;
 use crate::place::told;
 use ix_num::Memory;

@@ -56,8 +56,8 @@ pub(crate) fn table_of(side: &Side<'_>, name: NameId) -> Option<TruthTable>
     side.flat.tables.get(cell)
 }
 
-// A net by its name.
-fn named_net(flat: &Flat, net: NetRef) -> NamedNet
+/// A net by its name.
+pub(crate) fn named_net(flat: &Flat, net: NetRef) -> NamedNet
     requires { IsNetOf flat.now net }
     ensures { net_by_name flat.now net ≡ Some result }
 {

@@ -1,5 +1,5 @@
 -- Where two designs differ one of them has something.
-use Rattle.std.proofs.Common.{◌≡◌, ◌∙◌, ap, sym, refl, subst, ℕ, List, inl, inr}
+use Rattle.std.proofs.Common.{◌≡◌, ◌∙◌, ap, sym, refl, subst, ℕ, inl, inr}
 use Rattle.std.specs.Prelude.{◌⊎◌, slice_get, Option, Some, None, option_and_then, option_map}
 use Rattle.std.specs.Prelude.{IfSome}
 use Rattle.std.specs.FinMap.{get}
@@ -7,10 +7,8 @@ use Rattle.std.proofs.lemmas.Option.{none-some}
 use Rattle.ix_num.specs.Numbers.{NameNumber}
 use Rattle.ix_num.specs.declared.resource.NetRef.{NetRef}
 use Rattle.ix_rec.specs.declared.flow.Flat.{Flat}
-use Rattle.ix_rec.specs.declared.flow.FlatCell.{FlatCell}
 use Rattle.ix_differences.specs.Differences.{AgreesOnCell, AgreesOnTable, AllCellsAgree}
-use Rattle.ix_differences.specs.Differences.{cell_named, named_net, net_at, site_at, table_at}
-use Rattle.ix_differences.specs.Differences.{type_at}
+use Rattle.ix_differences.specs.Differences.{cell_named, named_net, net_at, site_at}
 use Rattle.ix_differences.specs.Earliest.{AgreesAt, IsNameIn, IsPinIn}
 use Rattle.ix_differences.specs.declared.earliest.PinName.{PinName}
 use Rattle.ix_differences.specs.declared.named_net.NamedNet.{NamedNet}

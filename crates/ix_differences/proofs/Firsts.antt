@@ -1,5 +1,5 @@
 -- The first of keys in an order.
-use Rattle.std.proofs.Common.{◌≡◌, ◌∙◌, ap, sym, refl, subst, ℕ, List, T, inl, inr}
+use Rattle.std.proofs.Common.{◌≡◌, ◌∙◌, ap, sym, refl, subst, List, T, inl, inr}
 use Rattle.std.specs.Prelude.{◌⊎◌, slice_get, Option, Some, None, if◌then◌else◌}
 use Rattle.std.specs.Cmp.{IsTotalOrder}
 use Rattle.std.specs.Cmp.Lexicographic.{options_total}
@@ -9,14 +9,14 @@ use Rattle.std.specs.declared.cmp.Ordering.TheVariants.{Less, Equal, Greater}
 use Rattle.std.proofs.lemmas.Cmp.{alike_right, nat_list_cmp_total, on_total, then_total}
 use Rattle.std.proofs.lemmas.Cmp.{tied_itself}
 use Rattle.ix_message.specs.Shape.{Text}
-use Rattle.ix_differences.specs.Earliest.{IsEarliest, IsFirst, cell_order, earlier, pin_order}
+use Rattle.ix_differences.specs.Earliest.{IsEarliest, IsFirst, name_order, earlier, pin_name_order}
 
-pub cell_order_total : (names : List Text) → IsTotalOrder (cell_order names)
-cell_order_total names = on_total (slice_get names) (options_total nat_list_cmp_total)
+pub name_order_total : (names : List Text) → IsTotalOrder (name_order names)
+name_order_total names = on_total (slice_get names) (options_total nat_list_cmp_total)
 
-pub pin_order_total : (names : List Text) → IsTotalOrder (pin_order names)
-pin_order_total names = then_total (on_total (λ p. p.cell) (cell_order_total names))
-    (on_total (λ p. p.pin) (cell_order_total names))
+pub pin_name_order_total : (names : List Text) → IsTotalOrder (pin_name_order names)
+pin_name_order_total names = then_total (on_total (λ p. p.cell) (name_order_total names))
+    (on_total (λ p. p.pin) (name_order_total names))
 
 module _ {K : Type 0} (R : K → K → Ordering) (Named Agrees : K → Type 0) where
   -- at what is seen more they agree
@@ -57,14 +57,15 @@ module _ {K : Type 0} (R : K → K → Ordering) (Named Agrees : K → Type 0) w
     alone key named differs = record {
       named = named;
       differs = differs;
-      agrees_before = λ k same less. absurd (never_less key (subst (λ x. R x key ≡ Less) same less));
+      agrees_before = λ k same less. absurd (never_less key
+          (subst (λ x. R x key ≡ Less) same less));
     }
 
     -- the earlier one of two
     pub joined : (P Q : K → Type 0) (x y : Option K) → IsEarliest R Named Agrees P x
         → IsEarliest R Named Agrees Q y
         → IsEarliest R Named Agrees (λ k. P k ⊎ Q k) (earlier R x y)
-    joined P Q None None p q = λ k seen. elim seen [ | inl h ↦ p k h | inr h ↦ q k h ]
+    joined P Q None None p q = λ k seen. elim seen [ inl h ↦ p k h | inr h ↦ q k h ]
     joined P Q None (Some y) p q = record {
       named = q.named;
       differs = q.differs;

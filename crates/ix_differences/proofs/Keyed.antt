@@ -1,5 +1,5 @@
 -- Cells by name.
-use Rattle.std.proofs.Common.{◌≡◌, ◌≢◌, ◌<◌, ◌≤◌, ◌+◌, ◌^◌, ◌∙◌, ap, sym, refl, subst, ℕ, zero, suc}
+use Rattle.std.proofs.Common.{◌≡◌, ◌<◌, ◌≤◌, ◌+◌, ◌∙◌, ap, sym, refl, subst, ℕ, suc}
 use Rattle.std.proofs.Common.{arith, Bool, true, false, List, [], ◌∷◌, length, take, map, inl, inr}
 use Rattle.std.specs.Prelude.{◌⊎◌, ◌||◌, nat_eq, slice_get, Option, Some, None, is_some, option_map}
 use Rattle.std.specs.List.{AllByRecursion, IsDistinct, list_any, position}
@@ -100,7 +100,7 @@ below_next cells i name cell at is k below = elim (cases_lt below.0 i) [
       let lt : below.0 < i + 1 = below.2 in
       let here : below.0 ≡ i = omega (arith, lt, le) in
       let same = same_Some below.1 cell
-          (sym below.3 ∙ ap (slice_get cells) here ∙ at) in
+      (sym below.3 ∙ ap (slice_get cells) here ∙ at) in
       inr (sym below.4 ∙ ap (λ c. c.name) same ∙ sym is)
 ]
 

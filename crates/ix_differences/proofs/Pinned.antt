@@ -1,7 +1,7 @@
 -- Pins of a map.
 use Rattle.std.proofs.Common.{◌≡◌, ◌∙◌, ap, sym, refl, subst, ℕ, Bool, true, false, cond, List, []}
 use Rattle.std.proofs.Common.{◌∷◌, ◌++◌, ◌&&◌, T, inl, inr, append-nil}
-use Rattle.std.specs.Prelude.{◌⊎◌, slice_get, Option, Some, None}
+use Rattle.std.specs.Prelude.{◌⊎◌, slice_get, Some}
 use Rattle.std.specs.Cmp.{Equal-is}
 use Rattle.std.specs.declared.cmp.Ordering.{Ordering}
 use Rattle.std.specs.declared.cmp.Ordering.TheVariants.{Less, Equal, Greater}
@@ -35,7 +35,7 @@ module _ (P : Entry → Type 0) where
           → cond b (Some e.1) (find pin_order q es) ≡ Some net → P (q, net)
       by true tied later is =
           let key : e.0 ≡ q = sym (pin_order-IsAntisymmetric q e.0
-              ((Equal-is (pin_order q e.0)).0 tied)) in
+          ((Equal-is (pin_order q e.0)).0 tied)) in
           let value : e.1 ≡ net = same_Some e.1 net is in
           subst P (λ i. (key i, value i)) all.0
       by false other later is = later is
@@ -103,7 +103,7 @@ IsAmong cells (e ∷ es) at = IsPinOf cells at e ⊎ IsAmong cells es at
 
 pub among_next : (cells : List FlatCell) (es : List Entry) (e : Entry) (at : PinName)
     → IsAmong cells (es ++ e ∷ []) at → IsAmong cells es at ⊎ IsPinOf cells at e
-among_next cells [] e at among = elim among [ | inl here ↦ inr here | inr never ↦ absurd never ]
+among_next cells [] e at among = elim among [ inl here ↦ inr here | inr never ↦ absurd never ]
 among_next cells (d ∷ es) e at among = elim among [
   | inl here ↦ inl (inl here)
   | inr later ↦ elim (among_next cells es e at later) [
@@ -126,7 +126,7 @@ among_found cells at q net cell (e ∷ es) stands named found =
         → IsAmong cells (e ∷ es) at
     by true tied later is =
         let key : e.0 ≡ (q, at.pin) = sym (pin_order-IsAntisymmetric (q, at.pin) e.0
-            ((Equal-is (pin_order (q, at.pin) e.0)).0 tied)) in
+        ((Equal-is (pin_order (q, at.pin) e.0)).0 tied)) in
         inl (cell, ap (λ k. slice_get cells k.0) key ∙ stands, named, ap (λ k. k.1) key)
     by false other later is = inr (later is)
 

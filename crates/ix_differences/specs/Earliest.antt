@@ -18,12 +18,13 @@ use Rattle.ix_differences.specs.declared.agrees.Asked.TheVariants.{Cells, Tables
 use Rattle.ix_differences.specs.declared.earliest.PinName.{PinName}
 
 -- names by their texts; what isn't a name comes first
-abbrev pub cell_order : List Text → NameNumber → NameNumber → Ordering
-cell_order names m n = option_cmp (slice_cmp nat_cmp) (slice_get names m) (slice_get names n)
+abbrev pub name_order : List Text → NameNumber → NameNumber → Ordering
+name_order names m n = option_cmp (slice_cmp nat_cmp) (slice_get names m) (slice_get names n)
 
 -- pins by the names of their cells, and then by their own
-abbrev pub pin_order : List Text → PinName → PinName → Ordering
-pin_order names x y = ordering_then (cell_order names x.cell y.cell) (cell_order names x.pin y.pin)
+abbrev pub pin_name_order : List Text → PinName → PinName → Ordering
+pin_name_order names x y = ordering_then (name_order names x.cell y.cell)
+    (name_order names x.pin y.pin)
 
 abbrev pub IsName : List Text → NameNumber → Type 0
 IsName names name = name < length names

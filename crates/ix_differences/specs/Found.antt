@@ -4,8 +4,8 @@ use Rattle.ix_message.specs.Shape.{Text}
 use Rattle.ix_rec.specs.declared.flow.Flat.{Flat}
 use Rattle.ix_differences.specs.Differences.{Agree, AgreesOnCell, AgreesOnTable, AllCellsAgree}
 use Rattle.ix_differences.specs.Differences.{AllPinsAgree}
-use Rattle.ix_differences.specs.Earliest.{AgreesAt, ArePinNames, IsFirst, IsName, cell_order}
-use Rattle.ix_differences.specs.Earliest.{pin_order}
+use Rattle.ix_differences.specs.Earliest.{AgreesAt, ArePinNames, IsFirst, IsName, name_order}
+use Rattle.ix_differences.specs.Earliest.{pin_name_order}
 use Rattle.ix_differences.specs.declared.found.Difference.{Difference}
 use Rattle.ix_differences.specs.declared.found.Difference.TheVariants.{AtCell, AtPin, AtTable}
 
@@ -16,11 +16,11 @@ Any k = Unit {0}
 -- the first difference, by the numbers of its names
 abbrev pub IsFound : List Text → (a b : Flat) → Difference → Type 0
 IsFound names a b (AtCell cell) =
-    IsFirst (cell_order names) (IsName names) (AgreesOnCell a b) Any cell
+    IsFirst (name_order names) (IsName names) (AgreesOnCell a b) Any cell
 IsFound names a b (AtPin pin) = AllCellsAgree a b
-    × IsFirst (pin_order names) (ArePinNames names) (AgreesAt a b) Any pin
+    × IsFirst (pin_name_order names) (ArePinNames names) (AgreesAt a b) Any pin
 IsFound names a b (AtTable cell) = AllCellsAgree a b × AllPinsAgree a b
-    × IsFirst (cell_order names) (IsName names) (AgreesOnTable a b) Any cell
+    × IsFirst (name_order names) (IsName names) (AgreesOnTable a b) Any cell
 
 abbrev pub IsVerdict : List Text → (a b : Flat) → Option Difference → Type 0
 IsVerdict names a b None = Agree a b

@@ -3,7 +3,7 @@
 ghost use Rattle.std.specs.Prelude.{◌≡◌, ◌<◌, ℕ, length, slice_get, Some};
 ghost use Rattle.ix_differences.specs.Differences.{AgreesOnCell, AgreesOnTable, AllCellsAgree};
 ghost use Rattle.ix_differences.specs.Earliest.{AgreesOn, AreNamed, IsEarliest, IsName, IsNameIn};
-ghost use Rattle.ix_differences.specs.Earliest.{cell_order};
+ghost use Rattle.ix_differences.specs.Earliest.{name_order};
 ghost use Rattle.ix_differences.specs.Found.{Any};
 ghost use Rattle.ix_differences.specs.Numbers.{IsReady};
 
@@ -25,7 +25,7 @@ fn first_of(
     requires a { IsReady names.now a.now.flat.now a.now.numbers.now }
     requires b { IsReady names.now b.now.flat.now b.now.numbers.now }
     requires named { AreNamed names.now cells.now }
-    ensures { IsEarliest (cell_order names.now) (IsName names.now)
+    ensures { IsEarliest (name_order names.now) (IsName names.now)
         (AgreesOn asked a.now.flat.now b.now.flat.now) (IsNameIn cells.now) result }
 {
     let mut first = None;
@@ -43,7 +43,7 @@ fn first_of(
 pub(crate) fn first_cell(names: &Names, a: &Side<'_>, b: &Side<'_>) -> Option<NameId>
     requires a { IsReady names.now a.now.flat.now a.now.numbers.now }
     requires b { IsReady names.now b.now.flat.now b.now.numbers.now }
-    ensures { IsEarliest (cell_order names.now) (IsName names.now)
+    ensures { IsEarliest (name_order names.now) (IsName names.now)
         (AgreesOnCell a.now.flat.now b.now.flat.now) Any result }
 {
     let in_a = first_of(names, Asked::Cells, a, b, &a.flat.cells);
@@ -57,7 +57,7 @@ pub(crate) fn first_table(names: &Names, a: &Side<'_>, b: &Side<'_>) -> Option<N
     requires a { IsReady names.now a.now.flat.now a.now.numbers.now }
     requires b { IsReady names.now b.now.flat.now b.now.numbers.now }
     requires cells { AllCellsAgree a.now.flat.now b.now.flat.now }
-    ensures { IsEarliest (cell_order names.now) (IsName names.now)
+    ensures { IsEarliest (name_order names.now) (IsName names.now)
         (AgreesOnTable a.now.flat.now b.now.flat.now) Any result }
 {
     first_of(names, Asked::Tables, a, b, &a.flat.cells)

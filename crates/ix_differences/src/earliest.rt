@@ -2,8 +2,8 @@
 
 ghost use Rattle.std.specs.Prelude.{◌≡◌, ◌<◌, length, Some, IfSome};
 ghost use Rattle.std.specs.Ordering.{is_lt};
-ghost use Rattle.ix_differences.specs.Earliest.{ArePinNames, IsName, cell_order, earlier};
-ghost use Rattle.ix_differences.specs.Earliest.{pin_order};
+ghost use Rattle.ix_differences.specs.Earliest.{ArePinNames, IsName, name_order, earlier};
+ghost use Rattle.ix_differences.specs.Earliest.{pin_name_order};
 
 use ix_num::NameId;
 use ix_strings::Names;
@@ -21,7 +21,7 @@ pub(crate) struct PinName {
 fn is_before(names: &Names, x: NameId, y: NameId) -> bool
     requires x { IsName names.now x }
     requires y { IsName names.now y }
-    ensures { result ≡ is_lt (cell_order names.now x y) }
+    ensures { result ≡ is_lt (name_order names.now x y) }
 {
     names.name(x) < names.name(y)
 }
@@ -30,20 +30,16 @@ fn is_before(names: &Names, x: NameId, y: NameId) -> bool
 fn is_pin_before(names: &Names, x: &PinName, y: &PinName) -> bool
     requires x { ArePinNames names.now x.now }
     requires y { ArePinNames names.now y.now }
-    ensures { result ≡ is_lt (pin_order names.now x.now y.now) }
+    ensures { result ≡ is_lt (pin_name_order names.now x.now y.now) }
 {
     (names.name(x.cell), names.name(x.pin)) < (names.name(y.cell), names.name(y.pin))
 }
 
 /// The earlier one of two names, where there are two.
-pub(crate) fn earlier_cell(
-    names: &Names,
-    x: Option<NameId>,
-    y: Option<NameId>,
-) -> Option<NameId>
+pub(crate) fn earlier_cell(names: &Names, x: Option<NameId>, y: Option<NameId>) -> Option<NameId>
     requires x { IfSome x (IsName names.now) }
     requires y { IfSome y (IsName names.now) }
-    ensures { result ≡ earlier (cell_order names.now) x y }
+    ensures { result ≡ earlier (name_order names.now) x y }
 {
     let Some(one) = x else {
         return y;
@@ -58,7 +54,7 @@ pub(crate) fn earlier_cell(
 fn earlier_of(names: &Names, one: PinName, other: PinName) -> PinName
     requires one { ArePinNames names.now one }
     requires other { ArePinNames names.now other }
-    ensures { Some result ≡ earlier (pin_order names.now) (Some one) (Some other) }
+    ensures { Some result ≡ earlier (pin_name_order names.now) (Some one) (Some other) }
 {
     if is_pin_before(names, &other, &one) {
         other
@@ -68,14 +64,10 @@ fn earlier_of(names: &Names, one: PinName, other: PinName) -> PinName
 }
 
 /// The earlier one of two pins, where there are two.
-pub(crate) fn earlier_pin(
-    names: &Names,
-    x: Option<PinName>,
-    y: Option<PinName>,
-) -> Option<PinName>
+pub(crate) fn earlier_pin(names: &Names, x: Option<PinName>, y: Option<PinName>) -> Option<PinName>
     requires x { IfSome x (ArePinNames names.now) }
     requires y { IfSome y (ArePinNames names.now) }
-    ensures { result ≡ earlier (pin_order names.now) x y }
+    ensures { result ≡ earlier (pin_name_order names.now) x y }
 {
     match (x, y) {
         (Some(one), Some(other)) => Some(earlier_of(names, one, other)),

@@ -5,8 +5,8 @@ ghost use Rattle.ix_differences.specs.Numbers.{IsReady};
 
 use crate::cells::{first_cell, first_table};
 use crate::earliest::PinName;
-use crate::side::Side;
 use crate::pins::first_pin;
+use crate::side::Side;
 use ix_num::NameId;
 use ix_strings::Names;
 

@@ -5,7 +5,7 @@ ghost use Rattle.std.specs.Bool.{Decides};
 ghost use Rattle.ix_flat.specs.Range.{NumbersFit};
 ghost use Rattle.ix_differences.specs.Differences.{net_at};
 ghost use Rattle.ix_differences.specs.Earliest.{AgreesAt, ArePinNames, IsEarliest, IsPinIn};
-ghost use Rattle.ix_differences.specs.Earliest.{pin_order};
+ghost use Rattle.ix_differences.specs.Earliest.{pin_name_order};
 ghost use Rattle.ix_differences.specs.Found.{Any};
 ghost use Rattle.ix_differences.specs.Numbers.{IsReady, KnowsCell};
 
@@ -27,7 +27,7 @@ fn is_on(side: &Side<'_>, at: &PinName, net: NamedNet) -> bool
 fn first_of(names: &Names, own: &Side<'_>, other: &Side<'_>) -> Option<PinName>
     requires own { IsReady names.now own.now.flat.now own.now.numbers.now }
     requires other { IsReady names.now other.now.flat.now other.now.numbers.now }
-    ensures { IsEarliest (pin_order names.now) (ArePinNames names.now)
+    ensures { IsEarliest (pin_name_order names.now) (ArePinNames names.now)
         (AgreesAt own.now.flat.now other.now.flat.now) (IsPinIn own.now.flat.now) result }
 {
     let mut first = None;
@@ -47,7 +47,7 @@ fn first_of(names: &Names, own: &Side<'_>, other: &Side<'_>) -> Option<PinName>
 pub(crate) fn first_pin(names: &Names, a: &Side<'_>, b: &Side<'_>) -> Option<PinName>
     requires a { IsReady names.now a.now.flat.now a.now.numbers.now }
     requires b { IsReady names.now b.now.flat.now b.now.numbers.now }
-    ensures { IsEarliest (pin_order names.now) (ArePinNames names.now)
+    ensures { IsEarliest (pin_name_order names.now) (ArePinNames names.now)
         (AgreesAt a.now.flat.now b.now.flat.now) Any result }
 {
     let in_a = first_of(names, a, b);

@@ -6,9 +6,9 @@ ghost use Rattle.ix_flat.specs.Whole.{AllDiffer};
 ghost use Rattle.ix_differences.specs.Differences.{IsAnswer};
 
 use crate::found::first_found;
-use crate::side::Side;
 use crate::numbers::numbers_of;
 use crate::place::told;
+use crate::side::Side;
 use ix_num::Memory;
 use ix_rec::{Flat, Place, Rule};
 use ix_strings::Names;

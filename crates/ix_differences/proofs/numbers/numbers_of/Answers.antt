@@ -1,5 +1,4 @@
-use Rattle.std.proofs.Common.{rules, arith}
-use Rattle.ix_differences.proofs.Keyed.{all_known, none_known, one_more_known}
+use Rattle.ix_differences.proofs.Keyed.{one_more_known}
 use Rattle.ix_differences.proofs.numbers.numbers_of.Goals as goal
 
 pub loop-i-preserved : goal.loop-i-preserved

@@ -1,19 +1,20 @@
 use Rattle.std.proofs.Common.{◌<◌, ◌∙◌, ap, length, slice_get, subst, sym}
 use Rattle.ix_differences.specs.Earliest.{AgreesAt}
-use Rattle.ix_differences.proofs.Turns.{cell_there, names_there, nets_agree, nets_differ}
-use Rattle.ix_differences.proofs.Turns.{next_net_there, pin_agrees, pin_differs, pins_done}
+use Rattle.ix_differences.proofs.Turns.{names_there, nets_agree, nets_differ, next_fits}
+use Rattle.ix_differences.proofs.Turns.{pin_agrees, pin_differs, pins_done}
 use Rattle.ix_differences.proofs.pins.first_of.Goals as goal
 
 pub at-requires : goal.at-requires
 at-requires c = subst (λ n. n < length c.args.own.now.flat.now.cells) (sym c.get.ensures)
-    (cell_there c.args.own.now.flat.now c.loop-cell.cell-iterator c.next.new.self
+    (next_fits c.args.own.now.flat.now c.loop-cell.cell-iterator c.next.new.self
     c.loop-cell.invariant.0 (c.in-Some.field-0-0.now, c.in-Some.net.now) c.requires.own.fits
-    c.loop-cell.invariant.1 c.in-Some.ensures.steps)
+    c.loop-cell.invariant.1 c.in-Some.ensures.steps).0
 
 pub named_net-requires : goal.named_net-requires
-named_net-requires c = next_net_there c.args.own.now.flat.now c.loop-cell.cell-iterator
-    c.next.new.self c.loop-cell.invariant.0 (c.in-Some.field-0-0.now, c.in-Some.net.now)
-    c.requires.own.fits c.loop-cell.invariant.1 c.in-Some.ensures.steps
+named_net-requires c =
+    (next_fits c.args.own.now.flat.now c.loop-cell.cell-iterator c.next.new.self
+    c.loop-cell.invariant.0 (c.in-Some.field-0-0.now, c.in-Some.net.now) c.requires.own.fits
+    c.loop-cell.invariant.1 c.in-Some.ensures.steps).1
 
 pub earlier_pin-first-requires-clause-y : goal.earlier_pin-first-requires-clause-y
 earlier_pin-first-requires-clause-y c = names_there c.args.names.now c.args.own.now.flat.now

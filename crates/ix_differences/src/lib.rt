@@ -13,4 +13,5 @@ mod place;
 mod side;
 mod whole;
 
+pub use named_net::NamedNet;
 pub use whole::first_difference;

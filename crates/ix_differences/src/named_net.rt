@@ -5,7 +5,7 @@ use ix_num::NameId;
 /// A net of a flat design, by the name of its signal. The two constants are themselves in each
 /// design.
 #[derive(Clone, Copy, PartialEq, Eq)]
-pub(crate) enum NamedNet {
+pub enum NamedNet {
     /// The net of logic 0.
     Gnd,
     /// The net of logic 1.

@@ -1,2 +1,6 @@
 -- What public contracts say.
 pub mod Completed
+-- For private contracts and proofs.
+pub mod Told
+pub mod Holdings
+pub mod Bits

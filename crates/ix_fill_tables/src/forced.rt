@@ -51,7 +51,7 @@ fn forced_by(on: &Netlist<'_>, placement: &CellPlacement) -> Option<ForcedBits> 
     let at = placed_lut(on.device, on.places, placement)?;
     let used = at.inputs.as_slice();
     let name = placement.cell_name;
-    let table = on.told.table(on.flat, name, used.len() as u32)?;
+    let table = on.told.table(on.flat, on.names, name, used.len() as u32)?;
     let ties = ties_of(on, &at)?;
     let bel = &at.shape.bels[at.place as usize];
     Some(forced_bits(bel, used, &ties, table.bits))

@@ -1,7 +1,7 @@
 -- The wires that constants hold, step by step.
 use Rattle.std.proofs.Common.{◌≡◌, ◌≢◌, ◌⊎◌, ◌<◌, ◌+◌, ◌∙◌, refl, ap, sym, subst, ℕ, arith, inl, inr}
 use Rattle.std.proofs.Common.{List, length, slice_get, Option, Some, None, option_map}
-use Rattle.std.proofs.Common.{option_and_then, Bool, true, false, true≢false, ◌↔◌}
+use Rattle.std.proofs.Common.{Result, Ok, Err, OnOk, option_and_then, Bool, true, false, true≢false, ◌↔◌}
 use Rattle.std.proofs.lemmas.Bool.{cases_lt, cases_eq, false≢true}
 use Rattle.std.proofs.lemmas.Option.{none-some, same_Some, slice_get_within}
 use Rattle.std.specs.FinMap.{get, empty, get-empty}
@@ -31,6 +31,11 @@ use Rattle.ix_fill_tables.specs.declared.constants.Holding.TheVariants as holdin
 use Rattle.ix_fill_tables.specs.Holdings.{Holdings, held_besides, is_of, HasWire, Adds, IsOne}
 use Rattle.ix_fill_tables.specs.Holdings.{IsEither, IsAmong, IsOfNet, IsOfNets, AreHoldings}
 use Rattle.ix_fill_tables.specs.Holdings.{tie_of, TellsTie}
+
+-- what follows where a call went well
+pub on_ok : {A E P Q : Type 0} (r : Result A E) → (P → Q) → OnOk r P → OnOk r Q
+on_ok (Ok x) f p = f p
+on_ok (Err e) f p = tt
 
 -- A constant besides.
 
@@ -78,15 +83,15 @@ key_cases site wire s w = elim (cases_eq site s) [
   | inr apart ↦ inr (λ p. apart (sym (ap (λ (x : ℕ × ℕ). x.0) p)))
 ]
 
-site_in : Res → ℕ
+abbrev site_in : Res → ℕ
 site_in (Wire site wire) = site
 site_in (Node n) = 0
 
-wire_in : Res → ℕ
+abbrev wire_in : Res → ℕ
 wire_in (Wire site wire) = wire
 wire_in (Node n) = 0
 
-is_wire : Res → Bool
+abbrev is_wire : Res → Bool
 is_wire (Wire site wire) = true
 is_wire (Node n) = false
 

@@ -1,9 +1,14 @@
 -- The bits of an element's table that a LUT forces, value by value.
-use Rattle.std.specs.Prelude.{◌≡◌, ◌<◌, ◌+◌, ◌↔◌, ℕ, List, Contains, slice_index}
+use Rattle.std.specs.Prelude.{◌≡◌, ◌<◌, ◌+◌, ◌↔◌, ℕ, List, Contains, slice_index, Bool}
+use Rattle.std.specs.Prelude.{bit_and, nat_eq, not}
 use Rattle.std.specs.Int.{bit_at}
 use Rattle.ix_lut.specs.Places.{LineNumber, LutPlace, Held, ElementBits, Agrees, Allows, Forces}
 use Rattle.ix_lut.specs.Tables.{TableBits, InputPlace, InputValues, spelled}
 use Rattle.ix_fill_tables.specs.declared.forcing.ForcedBits.{ForcedBits}
+
+-- a bit is forced both ways
+abbrev pub clashes : ForcedBits → Bool
+clashes forced = not (nat_eq (bit_and forced.ones forced.zeros) 0)
 
 -- an input is used, or its value agrees with what holds its line
 abbrev pub AgreesAt : List LineNumber → List InputPlace → Held → InputValues → InputPlace → Type 0

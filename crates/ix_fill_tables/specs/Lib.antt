@@ -4,3 +4,6 @@ pub mod Completed
 pub mod Told
 pub mod Holdings
 pub mod Bits
+pub mod Ties
+pub mod Forced
+pub mod Filled

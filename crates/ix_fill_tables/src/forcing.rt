@@ -8,7 +8,7 @@ ghost use Rattle.std.specs.List.{list_any};
 ghost use Rattle.ix_lut.specs.Places.{Agrees, Allows};
 ghost use Rattle.ix_lut.specs.Shapes.{IsUsableBel, lut_on, held_by};
 ghost use Rattle.ix_lut.specs.Tables.{spelled as spelled_by};
-ghost use Rattle.ix_fill_tables.specs.Bits.{AgreesAt, AreForcedBelow, AreForcedBits};
+ghost use Rattle.ix_fill_tables.specs.Bits.{AgreesAt, AreForcedBelow, AreForcedBits, clashes};
 
 use ix_lut::{BelShape, Tie};
 
@@ -40,6 +40,13 @@ impl ForcedBits {
             zeros: self.zeros | other.zeros,
         }
     }
+}
+
+/// Whether a bit is forced both ways.
+pub(crate) fn is_clash(forced: ForcedBits) -> bool
+    ensures { result ≡ clashes forced }
+{
+    forced.ones & forced.zeros != 0
 }
 
 /// Whether a place is one of these.

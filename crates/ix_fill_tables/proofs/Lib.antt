@@ -1,2 +1,4 @@
+pub mod Firsts
 pub mod Valued
 pub mod Wires
+pub mod Unused

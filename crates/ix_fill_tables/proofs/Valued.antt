@@ -111,9 +111,9 @@ module _ (on : LutPlace) (table : ℕ) (held : Held) where
     ];
   }
 
-  pub all_values : (count : ℕ) (forced : ForcedBits) → ((v : ℕ) → Agrees on held v → v < count)
-      → AreForcedBelow on table held count forced → AreForcedBits on table held forced
-  all_values count forced within are = record {
+  pub all_values : (most : ℕ) (forced : ForcedBits) → ((v : ℕ) → Agrees on held v → v < most)
+      → AreForcedBelow on table held most forced → AreForcedBits on table held forced
+  all_values most forced within are = record {
     ones = λ at. (are.ones.only at, λ f. sym (ap (bit_at forced.ones) f.read)
         ∙ are.ones.every f.v (within f.v f.agrees) f.agrees f.value);
     zeros = λ at. (are.zeros.only at, λ f. sym (ap (bit_at forced.zeros) f.read)

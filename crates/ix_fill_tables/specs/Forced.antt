@@ -4,7 +4,7 @@ use Rattle.std.specs.Prelude.{option_and_then, option_map}
 use Rattle.std.specs.FinMap.{FinMap, get}
 use Rattle.std.specs.Int.{bit_at}
 use Rattle.std.specs.List.{position}
-use Rattle.ix_num.specs.Numbers.{NameNumber}
+use Rattle.ix_num.specs.Numbers.{NameNumber, SiteTypeNumber, BelNumber}
 use Rattle.ix_rec.specs.Maps.{pin_order}
 use Rattle.ix_rec.specs.declared.device.DeviceRec.{DeviceRec}
 use Rattle.ix_rec.specs.declared.device.LutCell.{LutCell}
@@ -34,13 +34,31 @@ pub record IsReady (rec : DeviceRec) (flat : Flat) (phys : Phys) (names : ℕ) (
   pub constants_are : AreHoldings rec phys.nets constants.holdings
   pub told_are : AreTold flat names told
 
+-- an element's number, where it is usable
+abbrev pub where_usable : DeviceRec → SiteTypeNumber → (at : ElementNumber × ℕ)
+    → Option ElementNumber
+where_usable rec t at = option_map (λ shape. at.0) (in_type (shape_in rec at.0) rec t)
+
+-- the usable element of a BEL
+abbrev pub element_with : DeviceRec → SiteTypeNumber → BelNumber → Option ElementNumber
+element_with rec t bel = option_and_then (where_usable rec t)
+    (in_type (element_of_bel rec bel) rec t)
+
+-- that of a cell on a site of this type
+abbrev pub element_in : DeviceRec → CellPlacement → SiteTypeNumber → Option ElementNumber
+element_in rec placement t = option_and_then (element_with rec t)
+    (in_type (bel_in placement.bel) rec t)
+
 -- the usable element in which a cell is placed, by the site's own type
 abbrev pub usable_element : DeviceRec → CellPlacement → Option ElementNumber
-usable_element rec placement = option_and_then (λ site. option_and_then (λ t.
-    option_and_then (λ bel. option_and_then (λ at. option_map (λ shape. at.0)
-    (in_type (shape_in rec at.0) rec t)) (in_type (element_of_bel rec bel) rec t))
-    (in_type (bel_in placement.bel) rec t)) (type_of_site rec site))
+usable_element rec placement = option_and_then (λ site.
+    option_and_then (element_in rec placement) (type_of_site rec site))
     (site_named rec placement.site)
+
+-- bits so far, or none
+abbrev pub bits_so_far : Option ForcedBits → ForcedBits
+bits_so_far None = record { ones = 0; zeros = 0 }
+bits_so_far (Some forced) = forced
 
 -- the first instance of a site
 abbrev pub first_instance : Phys → NameNumber → Option ℕ

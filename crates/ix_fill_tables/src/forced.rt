@@ -7,6 +7,7 @@ ghost use Rattle.ix_message.specs.Shape.{Text};
 ghost use Rattle.std.specs.Prelude.{List};
 ghost use Rattle.ix_fill_tables.specs.Forced.{usable_element as usable_element_seen, IsReady};
 ghost use Rattle.ix_fill_tables.specs.Forced.{TellsElement, TellsForced, AreForcedBy, AreForced};
+ghost use Rattle.ix_fill_tables.specs.Forced.{bits_so_far};
 
 use crate::forcing::{ForcedBits, forced_bits};
 use crate::netlist::Netlist;
@@ -49,10 +50,7 @@ fn forced_by(on: &Netlist<'_>, placement: &CellPlacement) -> ForcedBits
     requires named { placement.now.cell_name < on.now.names }
     ensures { AreForcedBy on.now.device.now on.now.phys.now on.now.flat.now placement.now result }
 {
-    match bits_of(on, placement) {
-        None => ForcedBits::none(),
-        Some(bits) => bits,
-    }
+    so_far(bits_of(on, placement))
 }
 
 // The usable element in which a cell is placed.
@@ -81,6 +79,16 @@ fn element_of(on: &Netlist<'_>, placement: &CellPlacement) -> Option<(u32, u32)>
     Some((instance, element))
 }
 
+// The bits so far, or none.
+fn so_far(forced: Option<ForcedBits>) -> ForcedBits
+    ensures { result ≡ bits_so_far forced }
+{
+    match forced {
+        None => ForcedBits { ones: 0, zeros: 0 },
+        Some(forced) => forced,
+    }
+}
+
 // What the placement of this number forces besides.
 fn add_placement(on: &Netlist<'_>, forced: &mut Forced, k: usize) -> Result<(), Memory>
     requires ready { IsReady on.now.device.now on.now.flat.now on.now.phys.now on.now.names
@@ -97,11 +105,8 @@ fn add_placement(on: &Netlist<'_>, forced: &mut Forced, k: usize) -> Result<(), 
     match element_of(on, placement) {
         None => Ok(()),
         Some((instance, element)) => {
-            let bits = forced_by(on, placement);
-            let all = match forced.get(instance, element) {
-                None => bits,
-                Some(before) => before.and(bits),
-            };
+            let before = so_far(forced.get(instance, element));
+            let all = before.and(forced_by(on, placement));
             forced.insert(instance, element, all)
         }
     }

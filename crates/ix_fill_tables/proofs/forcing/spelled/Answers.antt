@@ -1,7 +1,7 @@
 use Rattle.std.proofs.Common.{◌<◌, take, arith, ap, ◌∙◌, rules, ◌+◌, ◌*◌, ◌/◌, ◌%◌, ◌^◌, slice_index, bit_and}
 use Rattle.std.proofs.lemmas.List.{take_all, length-take}
 use Rattle.ix_lut.specs.Tables.{spelled}
-use Rattle.ix_lut.proofs.Spelling.{spelled_next, spelled_small, spelled_below_64}
+use Rattle.ix_lut.proofs.Spelling.{spelled_next, spelled_below_64}
 use Rattle.ix_fill_tables.proofs.forcing.spelled.Goals as goal
 
 pub overflow_add-n : goal.overflow_add-n
@@ -21,4 +21,6 @@ loop-i-preserved c =
 pub returns-clause-small : goal.returns-clause-small
 returns-clause-small c =
     let e = take_all c.loop-i.i c.args.used.now c.loop-i-test.false in
-    omega (arith, c.loop-i.invariant ∙ ap (λ xs. spelled xs c.args.values) e, spelled_small c.args.used.now c.args.values)
+    let is = c.loop-i.invariant ∙ ap (λ xs. spelled xs c.args.values) e in
+    let small = spelled_below_64 c.args.used.now c.args.values c.requires.few in
+    omega (arith, is, small)

@@ -1,7 +1,7 @@
 -- What holds the lines of the inputs that a placed LUT doesn't use.
 use Rattle.std.proofs.Common.{◌≡◌, ◌≢◌, ◌<◌, ◌≤◌, ◌+◌, ◌∙◌, ap, sym, subst, ℕ, List}
 use Rattle.std.proofs.Common.{length, set, slice_get, slice_index, Some, arith, inl, inr, Contains}
-use Rattle.std.proofs.Common.{IfSome}
+use Rattle.std.proofs.Common.{IfSome, Option, None}
 use Rattle.std.proofs.lemmas.Bool.{cases_lt}
 use Rattle.std.proofs.lemmas.List.{get_or-set_same, get_or-set_other}
 use Rattle.std.proofs.lemmas.Option.{same_Some, slice_get_within, get_or_from_slice_get}
@@ -24,7 +24,8 @@ use Rattle.ix_placed_luts.specs.Tied.{IsTied, wire_of_input}
 use Rattle.ix_placed_luts.proofs.Functions.{input_of}
 use Rattle.ix_placed_luts.proofs.Placing.{all_lines_there, in_site, lines_are}
 use Rattle.ix_placed_luts.proofs.Sites.{lines_there, wire_there}
-use Rattle.ix_fill_tables.specs.Ties.{AreTiedBut, HasHeldTwice}
+use Rattle.ix_fill_tables.specs.Holdings.{TellsTie}
+use Rattle.ix_fill_tables.specs.Ties.{AreTiedBut, HasHeldTwice, TellsPin}
 
 module _ (rec : DeviceRec) (nets : List PhysNet) (site t bel : ℕ) (names lines used : List ℕ) where
   pub none_tied : (ties : List Tie) → AreTiedBut rec nets site t bel names lines used 0 ties
@@ -76,6 +77,18 @@ module _ (rec : DeviceRec) (nets : List PhysNet) (site t bel : ℕ) (names lines
             (sym (get_or-set_same ties line tie Free below))
             (subst (λ m. IsTied rec nets site t bel m tie) name_same tied))
       ]
+
+-- of a pin that is on a wire
+pub tells_pin : (rec : DeviceRec) (nets : List PhysNet) (site t bel name wire : ℕ)
+    (o : Option Tie) → wire_of_input rec t bel name ≡ Some wire
+    → TellsTie rec nets (Wire site wire) o → TellsPin rec nets site t bel name o
+tells_pin rec nets site t bel name wire None is twice = record {
+  wire = wire;
+  wire_is = is;
+  twice = twice;
+}
+tells_pin rec nets site t bel name wire (Some tie) is held =
+    subst (λ o. IfSome o (λ w. IsHeld rec nets (Wire site w) tie)) (sym is) held
 
 -- Of the LUT that was found.
 module _ (rec : DeviceRec) (placement : CellPlacement) (site t b : ℕ) (lut_bel : LutBel)

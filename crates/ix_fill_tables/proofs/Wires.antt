@@ -73,7 +73,7 @@ of_two (Some holdings.Both) one other h = inl refl
 
 -- One key, or another.
 
-key_cases : (site wire s w : ℕ)
+pub key_cases : (site wire s w : ℕ)
     → ((site ≡ s) × (wire ≡ w)) ⊎ (◌≡◌ {A = ℕ × ℕ} (s, w) (site, wire) → ⊥)
 key_cases site wire s w = elim (cases_eq site s) [
   | inl e ↦ elim (cases_eq wire w) [

@@ -81,7 +81,7 @@ fn opened(bytes: &[u8]) -> Result<Frame<'_>, Rule>
 }
 
 #[tactic(auto, unfolding(crate::specs::Answer::opened))]
-fn opened_content(content: &Content) -> Result<Frame<'_>, Rule>
+pub(crate) fn opened_content(content: &Content) -> Result<Frame<'_>, Rule>
     ensures { Finds segments_of result (opened (content_seen content.now)) }
 {
     match content {
@@ -91,7 +91,7 @@ fn opened_content(content: &Content) -> Result<Frame<'_>, Rule>
 }
 
 /// Opens a file, or refuses it for the rule that it breaks as a whole.
-fn open(file: File, content: &Content) -> Result<Frame<'_>, Stop>
+pub(crate) fn open(file: File, content: &Content) -> Result<Frame<'_>, Stop>
     ensures { Meets segments_of (opens file (content_seen content.now)) result }
 {
     match opened_content(content) {
@@ -145,7 +145,7 @@ fn check_device(alloc: Global, rec: DeviceRec, names: &Names) -> Result<Device, 
 }
 
 /// Reads a device, whose names are added to the names, and asks its rules.
-fn valid_device(alloc: Global, frame: &Frame<'_>, names: &mut Names) -> Result<Device, Stop>
+pub(crate) fn valid_device(alloc: Global, frame: &Frame<'_>, names: &mut Names) -> Result<Device, Stop>
     requires { names.old ≡ [] }
     ensures valid { Meets (named_device names.new) (device_in (segments_of frame.now)) result }
     ensures few { length names.new ≤ 2 ^ 28 + 66 }
@@ -157,7 +157,7 @@ fn valid_device(alloc: Global, frame: &Frame<'_>, names: &mut Names) -> Result<D
 }
 
 /// Reads a design, whose names are added to the names.
-fn read_design(alloc: Global, frame: &Frame<'_>, names: &mut Names) -> Result<NetlistRec, Stop>
+pub(crate) fn read_design(alloc: Global, frame: &Frame<'_>, names: &mut Names) -> Result<NetlistRec, Stop>
     requires { length names.old + 2 ^ 28 + 66 < 2 ^ 32 - 1 }
     ensures read { (d : NamedDevice) → d.names ≡ names.old
         → Meets (named_design names.new) (design_in d (segments_of frame.now)) result }
@@ -175,7 +175,7 @@ fn read_design(alloc: Global, frame: &Frame<'_>, names: &mut Names) -> Result<Ne
 }
 
 /// Flattens a design, whose flat names are added to the names.
-fn flat_design(
+pub(crate) fn flat_design(
     alloc: Global,
     rec: &NetlistRec,
     device: &Device,
@@ -203,7 +203,7 @@ fn flat_design(
 }
 
 /// Fixes the ports of a flat design.
-fn pinned(
+pub(crate) fn pinned(
     alloc: Global,
     rec: &NetlistRec,
     device: &Device,

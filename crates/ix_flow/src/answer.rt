@@ -1,7 +1,7 @@
 //! The answer to the bytes of a device and a design.
 
 ghost use Rattle.std.specs.Prelude.{◌≡◌, ◌+◌, ◌-◌, ◌^◌, ◌<◌, ◌≤◌, ℕ};
-ghost use Rattle.std.specs.Prelude.{Ok, Err, Some, IfOk};
+ghost use Rattle.std.specs.Prelude.{Ok, Err, Some, IfOk, IfSome};
 ghost use Rattle.std.specs.Prelude.{[], ◌∷◌, List, length, slice_get};
 ghost use Rattle.std.specs.Prelude.{◌&&◌, nat_eq};
 ghost use Rattle.std.specs.FinMap.{len};
@@ -15,6 +15,8 @@ ghost use Rattle.ix_device_read.specs.Named.{DeviceNamed};
 ghost use Rattle.ix_device_read.specs.Records.{device_record};
 ghost use Rattle.ix_rec.specs.Ranges.{IndexesFit};
 ghost use Rattle.ix_phys_write.specs.Record.{IsPhysNamed};
+ghost use Rattle.ix_flat.specs.Range.{IsInRange, IsNamed};
+ghost use Rattle.ix_flat.specs.Whole.{IsWhole};
 ghost use Rattle.ix_first_fit.specs.Named.{CellNamed};
 ghost use Rattle.ix_first_fit.specs.Answers.{IsFitFault};
 ghost use Rattle.ix_job.specs.Chain.{Meets};
@@ -25,7 +27,7 @@ ghost use Rattle.ix_logic_read.specs.Record.{IsNetlistNamed};
 ghost use Rattle.ix_hierarchy.specs.Fits.{NetlistFits};
 ghost use Rattle.ix_flow.specs.Answer.{rule_of, opened, opens, device_in, design_in, placed};
 ghost use Rattle.ix_flow.specs.Answer.{NamedDevice, NamedDesign, IsFlatDesign, flattened, pinned};
-ghost use Rattle.ix_flow.specs.Answer.{unconnected, cells_in};
+ghost use Rattle.ix_flow.specs.Answer.{unconnected, cells_in, BreaksReading};
 ghost use Rattle.ix_flow.specs.Answer.{written, netlist_for, answer_for, answer, implemented};
 ghost use Rattle.ix_flow.specs.Named.{named_device, named_design, named_flat, named_cells};
 ghost use Rattle.ix_flow.specs.Named.{IsFaultNamed, TellsUnread};
@@ -110,10 +112,12 @@ fn broken(file: File, rule: Rule, place: Place) -> Stop
     Stop::Refused(Report::Bad { file, rule, place })
 }
 
-// The first rule of a frame that a file breaks, and the first index out of its list.
-fn reading_fault(file: File, fault: ReadFault) -> Stop
+/// The first rule that a file breaks as it is read: a rule of its frame, or the first index out of
+/// its list. None where memory is wanting.
+pub(crate) fn broken_reading(fault: ReadFault) -> Option<(Rule, Place)>
     ensures { (message : Struct) (all : Segments)
-        → Refuses fault (reading_in_segments message all) → TellsUnread file message all result }
+        → Refuses fault (reading_in_segments message all)
+        → IfSome result (λ broken. BreaksReading message all broken.0 broken.1) }
 {
     match fault {
         ReadFault::Frame(fault) => {
@@ -121,10 +125,21 @@ fn reading_fault(file: File, fault: ReadFault) -> Stop
                 segment: fault.segment,
                 word: fault.word,
             };
-            broken(file, rule_of(fault.rule), place)
+            Some((rule_of(fault.rule), place))
         }
-        ReadFault::Index(place) => broken(file, Rule::I1, place),
-        ReadFault::Memory => Stop::Memory,
+        ReadFault::Index(place) => Some((Rule::I1, place)),
+        ReadFault::Memory => None,
+    }
+}
+
+// A device or a design is refused for that rule.
+fn reading_fault(file: File, fault: ReadFault) -> Stop
+    ensures { (message : Struct) (all : Segments)
+        → Refuses fault (reading_in_segments message all) → TellsUnread file message all result }
+{
+    match broken_reading(fault) {
+        Some((rule, place)) => broken(file, rule, place),
+        None => Stop::Memory,
     }
 }
 
@@ -145,7 +160,11 @@ fn check_device(alloc: Global, rec: DeviceRec, names: &Names) -> Result<Device, 
 }
 
 /// Reads a device, whose names are added to the names, and asks its rules.
-pub(crate) fn valid_device(alloc: Global, frame: &Frame<'_>, names: &mut Names) -> Result<Device, Stop>
+pub(crate) fn valid_device(
+    alloc: Global,
+    frame: &Frame<'_>,
+    names: &mut Names,
+) -> Result<Device, Stop>
     requires { names.old ≡ [] }
     ensures valid { Meets (named_device names.new) (device_in (segments_of frame.now)) result }
     ensures few { length names.new ≤ 2 ^ 28 + 66 }
@@ -157,7 +176,11 @@ pub(crate) fn valid_device(alloc: Global, frame: &Frame<'_>, names: &mut Names) 
 }
 
 /// Reads a design, whose names are added to the names.
-pub(crate) fn read_design(alloc: Global, frame: &Frame<'_>, names: &mut Names) -> Result<NetlistRec, Stop>
+pub(crate) fn read_design(
+    alloc: Global,
+    frame: &Frame<'_>,
+    names: &mut Names,
+) -> Result<NetlistRec, Stop>
     requires { length names.old + 2 ^ 28 + 66 < 2 ^ 32 - 1 }
     ensures read { (d : NamedDevice) → d.names ≡ names.old
         → Meets (named_design names.new) (design_in d (segments_of frame.now)) result }
@@ -213,8 +236,11 @@ pub(crate) fn pinned(
     requires design { (count : ℕ) × NetlistFits count rec.now }
     requires flat { (old : List Text) × IsFlatDesign device.now (named_design old rec.now)
         (named_flat names.now flat) }
-    ensures { (design : NamedDesign) → design.rec ≡ rec.now
+    ensures pinned { (design : NamedDesign) → design.rec ≡ rec.now
         → Meets (λ flat. flat) (pinned device.now design (named_flat names.now flat)) result }
+    ensures range { IfOk result (IsInRange device.now) }
+    ensures named { IfOk result (IsNamed (length names.now)) }
+    ensures whole { IfOk result (IsWhole names.now device.now) }
 {
     match fixed_pins(alloc, rec, device, flat, names) {
         Ok(flat) => Ok(flat),

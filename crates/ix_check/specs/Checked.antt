@@ -36,7 +36,7 @@ pub record IsAccepted (level : Level) (names : List Text) (rec : DeviceRec) (phy
   pub legal : Legal level names rec completed
   pub extracted : Flat
   pub is_extracted : IsExtracted names rec completed extracted
-  pub agree : Agree names extracted flat
+  pub agree : Agree extracted flat
 
 -- It is refused for the first rule that it breaks, completed.
 pub record BreaksRule (level : Level) (names : List Text) (rec : DeviceRec) (phys : Phys)

@@ -1,13 +1,14 @@
 //! The verdict on a netlist.
 
-ghost use Rattle.std.specs.Prelude.{◌≡◌, ◌≤◌, ◌<◌, ◌+◌, ◌-◌, ◌*◌, ◌^◌, length, IfOk};
+ghost use Rattle.std.specs.Prelude.{◌≡◌, ◌≤◌, ◌<◌, ◌+◌, ◌-◌, ◌*◌, ◌^◌, length, map, IfOk};
 ghost use Rattle.ix_device_read.specs.Named.{DeviceNamed};
 ghost use Rattle.ix_flat.specs.Range.{IsInRange, IsNamed};
-ghost use Rattle.ix_flat.specs.Whole.{IsWhole};
+ghost use Rattle.ix_flat.specs.Whole.{AllDiffer, IsWhole};
 ghost use Rattle.ix_graph.specs.Graph.{graph_of};
 ghost use Rattle.ix_legal.specs.Legal.{IsSound, Legal, most_entries};
 ghost use Rattle.ix_strings.specs.Names.{KeepsNumbers};
 ghost use Rattle.ix_check.specs.Checked.{IsVerdict};
+ghost use Rattle.ix_check.specs.Wrong.{IsCompared, TellsWrong};
 
 use crate::derived::is_derived;
 use crate::verdict::Verdict;
@@ -18,6 +19,7 @@ use ix_fill_tables::fill_tables_on;
 use ix_graph::NodeGraph;
 use ix_legal::Level;
 use ix_num::Memory;
+use ix_read_laws::{devices_stay_named, names_are_no_fewer};
 use ix_rec::{Flat, Phys, Place, Rule};
 use ix_rules::first_broken;
 use ix_strings::Names;
@@ -35,6 +37,11 @@ fn first_unlike(
 ) -> Result<Option<(Rule, Place)>, Memory>
     requires graph { graph.now ≡ graph_of device.now }
     requires legal { Legal level names.now device.now phys.now }
+    requires device { DeviceNamed (length names.now) device.now }
+    requires range { IsInRange device.now flat.now }
+    requires named { IsNamed (length names.now) flat.now }
+    requires differ { AllDiffer (map (λ cell. cell.name) flat.now.cells) }
+    ensures { IfOk result (IsCompared names.now device.now phys.now flat.now) }
 {
     match extract_on(alloc, device, graph, phys, names, level)? {
         Some(extracted) => first_difference(alloc, &extracted, flat, names),
@@ -55,10 +62,15 @@ fn first_wrong(
 ) -> Result<Option<(Rule, Place)>, Memory>
     requires graph { graph.now ≡ graph_of device.now }
     requires sound { IsSound names.now phys.now }
+    requires device { DeviceNamed (length names.now) device.now }
+    requires range { IsInRange device.now flat.now }
+    requires named { IsNamed (length names.now) flat.now }
+    requires differ { AllDiffer (map (λ cell. cell.name) flat.now.cells) }
+    ensures { IfOk result (TellsWrong level names.now device.now phys.now flat.now) }
 {
     match first_broken(alloc, device, graph, phys, names, level)? {
         None => first_unlike(alloc, device, graph, flat, phys, names, level),
-        broken => Ok(broken),
+        Some(broken) => Ok(Some(broken)),
     }
 }
 
@@ -89,6 +101,8 @@ pub fn check_netlist(
     ensures verdict { IfOk result (IsVerdict level names.new device.now phys flat.now) }
     ensures keeps { KeepsNumbers names.old names.new }
 {
+    devices_stay_named();
+    names_are_no_fewer();
     let derived = is_derived(device, &phys, names);
     let graph = NodeGraph::build(alloc, device)?;
     let completed = fill_tables_on(alloc, device, &graph, flat, phys, names)?;

@@ -1,6 +1,5 @@
 //! Whether tables are derived.
 
-ghost use Rattle.std.specs.Prelude.{◌×◌};
 ghost use Rattle.std.specs.Bool.{Decides};
 ghost use Rattle.ix_phys_write.specs.Record.{IsPhysNamed};
 ghost use Rattle.ix_check.specs.Checked.{HasLutCell, IsDerived};

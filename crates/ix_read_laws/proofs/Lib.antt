@@ -1,1 +1,2 @@
 pub mod NamedFits
+pub mod MoreNames

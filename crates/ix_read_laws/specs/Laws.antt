@@ -1,10 +1,12 @@
--- What flattening asks of a design and of a device holds of those that were read.
-use Rattle.std.specs.Prelude.{ℕ, List, length}
+-- What is so of a design and of a device that were read: what flattening asks of them, and that they
+-- stay named as names are added.
+use Rattle.std.specs.Prelude.{◌≤◌, ℕ, List, length}
 use Rattle.ix_message.specs.Shape.{Text}
 use Rattle.ix_rec.specs.declared.device.DeviceRec.{DeviceRec}
 use Rattle.ix_rec.specs.declared.netlist.NetlistRec.{NetlistRec}
 use Rattle.ix_device_read.specs.Named.{DeviceNamed}
 use Rattle.ix_logic_read.specs.Record.{IsNetlistNamed}
+use Rattle.ix_strings.specs.Names.{KeepsNumbers}
 use Rattle.ix_hierarchy.specs.Fits.{AreInputsNamed, NetlistFits}
 
 abbrev pub ReadNetlistsFit : Type 0
@@ -13,3 +15,12 @@ ReadNetlistsFit = (names : List Text) (design : NetlistRec) → IsNetlistNamed n
 
 abbrev pub ReadDevicesFit : Type 0
 ReadDevicesFit = (names : ℕ) (rec : DeviceRec) → DeviceNamed names rec → AreInputsNamed names rec
+
+-- Where each name keeps its number, there are no fewer names.
+abbrev pub NamesAreNoFewer : Type 0
+NamesAreNoFewer = (old new : List Text) → KeepsNumbers old new → length old ≤ length new
+
+-- Names of a device are names of a longer table too.
+abbrev pub DevicesStayNamed : Type 0
+DevicesStayNamed = (old new : List Text) (rec : DeviceRec) → KeepsNumbers old new
+    → DeviceNamed (length old) rec → DeviceNamed (length new) rec

@@ -3,4 +3,4 @@
 
 mod laws;
 
-pub use laws::{read_devices_fit, read_netlists_fit};
+pub use laws::{devices_stay_named, names_are_no_fewer, read_devices_fit, read_netlists_fit};

@@ -20,3 +20,9 @@ measure() { # NAME COMMAND..: times a command that runs `runs` times
     read -r middle least busy memory < <(python3 "$here/measure.py" "$runs" 0 "$@")
     row "$name" "$middle" "$least" "$busy" "$memory"
 }
+
+alone() { # COMMAND..: the median and the least of `runs` times that a command tells on standard error, as `.. in N us`
+    for ((i = 0; i < runs; i++)); do
+        "$@" 2>&1 >/dev/null
+    done | awk '{ print $3 }' | sort -n | awk '{ t[NR] = $1 } END { print t[int((NR + 1) / 2)], t[1] }'
+}

@@ -7,7 +7,8 @@ ghost use Rattle.ix_holders.specs.Holders.{AreHolders};
 ghost use Rattle.ix_element_numbers.specs.Numbers.{IsInElement};
 ghost use Rattle.ix_element_tables.specs.Kept.{KeepsTableAt};
 ghost use Rattle.ix_element_tables.specs.Least.{IsEarlier, IsLeast};
-ghost use Rattle.ix_element_tables.specs.Noted.{AreNoted, IsReady, KeepsSharing};
+ghost use Rattle.ix_element_tables.specs.Noted.{AreNoted, IsReady};
+ghost use Rattle.ix_element_tables.specs.Sharing.{KeepsSharing};
 
 use crate::netlist::Netlist;
 use crate::noted::NotedTables;
@@ -29,12 +30,7 @@ fn is_earlier(at: InElement, other: Option<InElement>) -> bool
 
 // Whether the element of a placement has no LUT, or the table of the element gives the placed cell
 // a function. A plain cell has none.
-fn keeps_table(
-    on: &Netlist<'_>,
-    tables: &NotedTables,
-    placement: usize,
-    at: InElement,
-) -> bool
+fn keeps_table(on: &Netlist<'_>, tables: &NotedTables, placement: usize, at: InElement) -> bool
     requires ready { IsReady on.now.names.now on.now.device.now on.now.phys.now on.now.places.now
         on.now.numbers.now }
     requires ends { AreEnds on.now.device.now on.now.phys.now on.now.ends.now }

@@ -9,7 +9,7 @@ ghost use Rattle.ix_legal.specs.Spots.{Everywhere, Tells};
 ghost use Rattle.ix_ends.specs.Ends.{AreEnds};
 ghost use Rattle.ix_holders.specs.Holders.{AreHolders};
 ghost use Rattle.ix_lut_places.specs.Places.{ArePlaces};
-ghost use Rattle.ix_element_tables.specs.Noted.{KeepsSharing};
+ghost use Rattle.ix_element_tables.specs.Sharing.{KeepsSharing};
 
 use crate::first::first_break;
 use crate::netlist::Netlist;
@@ -23,7 +23,7 @@ use ix_lut_places::LutPlaces;
 use ix_num::Memory;
 use ix_rec::Phys;
 use ix_strings::Names;
-use ix_table_keys::TableKeys;
+use ix_table_keys::{TableKeys, table_is_one};
 use std::alloc::Global;
 
 /// The first LUT element, by the instance of its site and then by its number, that breaks L9: one
@@ -63,6 +63,7 @@ pub fn first_without_function(
         holders,
     };
     let tables = noted_tables(alloc, &on, &keys)?;
+    table_is_one();
     match first_break(&on, &tables) {
         None => Ok(None),
         Some(at) => Ok(Some(Spot::ElementAt(at.instance, at.element))),

@@ -1,5 +1,9 @@
 //! The answer to a case.
 
+ghost use Rattle.std.specs.Prelude.{◌≡◌};
+ghost use Rattle.ix_graph.specs.Graph.{graph_of};
+ghost use Rattle.ix_legal.specs.Legal.{IsSound};
+
 use crate::pieces::joined;
 use crate::reading::{Given, given_by};
 use anyhow::Result;
@@ -17,7 +21,10 @@ pub(crate) fn line_at(
     given: &Given,
     names: &Names,
     level: Level,
-) -> Result<Vec<u8>, Memory> {
+) -> Result<Vec<u8>, Memory>
+    requires graph { given.now.graph ≡ graph_of given.now.device }
+    requires sound { IsSound names.now given.now.phys }
+{
     match first_broken(
         alloc,
         &given.device,
@@ -53,12 +60,7 @@ fn put_files(alloc: Global, text: &mut String, device: &[u8], netlist: &[u8]) ->
 }
 
 /// What the case of a line shows, and the answer.
-pub(crate) fn answer_to(
-    alloc: Global,
-    device: &str,
-    netlist: &str,
-    line: &str,
-) -> Result<String> {
+pub(crate) fn answer_to(alloc: Global, device: &str, netlist: &str, line: &str) -> Result<String> {
     let mut text = String::from_str(alloc, field(line, 0))?;
     text.push_str(": ")?;
     let device = bytes_of(alloc, device)?;

@@ -1,25 +1,20 @@
-use Rattle.std.proofs.Common.{rules, ◌≡◌, ◌<◌, ◌+◌, length, ℕ, ◌-◌, ◌*◌, ◌≤◌, ◌/◌, ◌%◌, Bool, true, false, nat_eq, nat_lt, List, [], ◌∷◌, ◌++◌, slice_index_or, slice_set, bit_and, bit_or, Fits, w8, w32, w64, Bor, MutBor}
-use Rattle.std.specs.Bool.{Decides}
-use Rattle.ix_ends.specs.Ends.{AreEnds}
-use Rattle.ix_holders.specs.Holders.{AreHolders}
-use Rattle.ix_element_numbers.specs.Numbers.{IsInElement}
-use Rattle.ix_element_tables.specs.Kept.{KeepsTableAt}
-use Rattle.ix_element_tables.specs.Least.{IsEarlier, IsLeast}
-use Rattle.ix_element_tables.specs.Noted.{AreNoted, IsReady, KeepsSharing}
+use Rattle.std.proofs.Common.{◌≡◌, subst, length, arith}
+use Rattle.ix_element_tables.specs.Least.{IsLeast}
+use Rattle.ix_element_tables.proofs.Firsts.{none_broken}
 use Rattle.ix_element_tables.proofs.first.first_break.Goals as goal
 
--- src/first.rt:110:5
 pub loop-placement-init : goal.loop-placement-init
-loop-placement-init c = ?
+loop-placement-init c = none_broken c.args.on.now.names.now c.args.on.now.device.now
+    c.args.on.now.phys.now
 
--- src/first.rt:111:9
 pub with_placement-first-requires-clause-first : goal.with_placement-first-requires-clause-first
-with_placement-first-requires-clause-first c = ?
+with_placement-first-requires-clause-first c = c.loop-placement.invariant
 
--- src/first.rt:110:5
 pub loop-placement-preserved : goal.loop-placement-preserved
-loop-placement-preserved c = ?
+loop-placement-preserved c = c.with_placement-first.ensures
 
--- src/first.rt:97:1
 pub returns : goal.returns
-returns c = ?
+returns c = subst (λ n. IsLeast c.args.on.now.names.now c.args.on.now.device.now
+    c.args.on.now.phys.now n c.loop-placement.first)
+    (let end : c.loop-placement.placement ≡ length c.args.on.now.phys.now.placements = omega arith
+    in end) c.loop-placement.invariant

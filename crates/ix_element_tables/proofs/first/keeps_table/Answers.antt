@@ -1,25 +1,40 @@
-use Rattle.std.proofs.Common.{rules, ◌≡◌, ◌<◌, ◌+◌, length, ℕ, ◌-◌, ◌*◌, ◌≤◌, ◌/◌, ◌%◌, Bool, true, false, nat_eq, nat_lt, List, [], ◌∷◌, ◌++◌, slice_index_or, slice_set, bit_and, bit_or, Fits, w8, w32, w64, Bor, MutBor}
+use Rattle.std.proofs.Common.{◌∙◌, refl, ap, sym, subst}
+use Rattle.std.specs.Prelude.{Some}
 use Rattle.std.specs.Bool.{Decides}
-use Rattle.ix_ends.specs.Ends.{AreEnds}
-use Rattle.ix_holders.specs.Holders.{AreHolders}
-use Rattle.ix_element_numbers.specs.Numbers.{IsInElement}
+use Rattle.std.proofs.lemmas.Bool.{false≢true}
 use Rattle.ix_element_tables.specs.Kept.{KeepsTableAt}
-use Rattle.ix_element_tables.specs.Least.{IsEarlier, IsLeast}
-use Rattle.ix_element_tables.specs.Noted.{AreNoted, IsReady, KeepsSharing}
+use Rattle.ix_element_tables.proofs.Keeping.{none_keeps, tableless_breaks, function_decides}
 use Rattle.ix_element_tables.proofs.first.keeps_table.Goals as goal
 
--- src/first.rt:52:11
 pub get-requires : goal.get-requires
-get-requires c = ?
+get-requires c = c.requires.noted.room c.args.at.number c.requires.within
 
--- src/first.rt:32:1
 pub returns-in-None : goal.returns-in-None
-returns-in-None c = ?
+returns-in-None c = (
+  λ yes. none_keeps c.args.on.now.names.now c.args.on.now.device.now c.args.on.now.phys.now
+      c.args.on.now.numbers.now c.args.tables.now c.requires.noted c.args.placement
+      c.requires.element.placement c.requires.element.placement_is c.args.at c.requires.element
+      c.requires.within (c.get.ensures ∙ ap Some c.in-None.is),
+  λ keeps. refl,
+)
 
--- src/first.rt:32:1
 pub returns-in-Some-None : goal.returns-in-Some-None
-returns-in-Some-None c = ?
+returns-in-Some-None c = (
+  λ never. absurd (false≢true never),
+  λ keeps. absurd (tableless_breaks c.args.on.now.names.now c.args.on.now.device.now
+      c.args.on.now.phys.now c.args.on.now.numbers.now c.args.tables.now c.requires.noted
+      c.args.placement c.requires.element.placement c.requires.element.placement_is c.args.at
+      c.requires.element c.requires.within (c.get.ensures ∙ ap Some (c.in-Some-None.is
+      ∙ ap Some c.in-Some-None.field-0-is)) keeps),
+)
 
--- src/first.rt:32:1
 pub returns-in-Some-Some : goal.returns-in-Some-Some
-returns-in-Some-Some c = ?
+returns-in-Some-Some c = subst (λ b. Decides b (KeepsTableAt c.args.on.now.names.now
+    c.args.on.now.device.now c.args.on.now.phys.now c.args.placement c.args.at.element))
+    (sym c.is_some.ensures) (function_decides c.args.on.now.names.now c.args.on.now.device.now
+    c.args.on.now.phys.now c.args.on.now.numbers.now c.args.tables.now c.requires.noted
+    c.args.placement c.at.result.now c.at.ensures c.args.at
+    c.requires.element c.requires.within c.in-Some-Some.bits
+    (c.get.ensures ∙ ap Some (c.in-Some-Some.is ∙ ap Some (c.in-Some-Some.field-0-is
+    ∙ ap Some c.in-Some-Some.bits-is))) (λ t. t.bits) c.function_of.result
+    c.function_of.ensures.function c.function_of.ensures.none)

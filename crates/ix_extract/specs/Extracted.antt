@@ -23,7 +23,8 @@ use Rattle.ix_flat.specs.Whole.{IsPortType}
 use Rattle.ix_lut.specs.Places.{ElementBits}
 use Rattle.ix_legal.specs.Holders.{Holds, nets_of_type}
 use Rattle.ix_legal.specs.LutTables.{IsFunction}
-use Rattle.ix_legal.specs.Sites.{ElementNumber, in_site, bel_pin_at, pins_at, lut_cell_of, element_at}
+use Rattle.ix_legal.specs.Sites.{ElementNumber, in_site, bel_pin_at, pins_at, lut_cell_of}
+use Rattle.ix_legal.specs.Sites.{element_at}
 use Rattle.ix_legal.specs.TableKeys.{HasTable}
 
 -- a placed cell
@@ -76,7 +77,7 @@ pub record IsPinOn (rec : DeviceRec) (phys : Phys) (cell : ℕ) (pin : NameNumbe
   pub wire_is : wire_of_pin rec placement pin ≡ Some wire
   pub holds : Holds rec phys.nets (Wire site wire) net
 
--- The cell of this number is a LUT with this truth table: its function, by the table of its element.
+-- The cell of this number is a LUT with this truth table: its function by the table of its element.
 pub record IsTableOf (names : List Text) (rec : DeviceRec) (phys : Phys) (cell : ℕ)
     (table : TruthTable) : Type 0 where
   pub placement : CellPlacement

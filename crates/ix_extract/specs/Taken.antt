@@ -1,6 +1,6 @@
 -- A design as it is taken from a netlist, part by part.
 use Rattle.std.specs.Prelude.{◌≡◌, ◌↔◌, ◌<◌, ℕ, List, take, length, map, slice_get}
-use Rattle.std.specs.Prelude.{Option, Some, None, IfSome, codes}
+use Rattle.std.specs.Prelude.{Option, Some, None, IfSome, codes, false}
 use Rattle.std.specs.FinMap.{FinMap, get}
 use Rattle.std.specs.Ordering.{nat_cmp}
 use Rattle.ix_message.specs.Shape.{Text}
@@ -35,7 +35,8 @@ use Rattle.ix_table_keys.specs.declared.tables.TableKeys.{TableKeys}
 use Rattle.ix_extract.specs.declared.ports.PortTypes.{PortTypes}
 use Rattle.ix_extract.specs.declared.tables.LutTable.{LutTable}
 use Rattle.ix_extract.specs.declared.tables.LutTable.TheVariants.{Plain, Lacking, Has}
-use Rattle.ix_extract.specs.Extracted.{net_of, IsPinOn, IsTableOf, IsPortOn, LacksFunction}
+use Rattle.ix_extract.specs.Extracted.{net_of, is_lut_input, IsPinOn, IsTableOf, IsPortOn}
+use Rattle.ix_extract.specs.Extracted.{LacksFunction}
 
 -- Nets.
 
@@ -108,6 +109,17 @@ pub record AddsPins (rec : DeviceRec) (phys : Phys) (cell : ℕ) (Wanted : NameN
       → get after (other, pin) ≡ Some net
   pub added : (pin : NameNumber) (net : NetRef) → Wanted pin → IsPinOn rec phys cell pin net
       → get after (cell, pin) ≡ Some net
+
+-- a pin is one of the first so many of a list, and no input of a LUT
+abbrev pub IsListed : DeviceRec → CellPlacement → List (NameNumber × BelPinNumber) → (count : ℕ)
+    → NameNumber → Type 0
+IsListed rec placement pins count pin = (is_lut_input (lut_cell_of rec placement.ty) pin ≡ false)
+    × (i : ℕ) × (entry : NameNumber × BelPinNumber) × (i < count)
+    × (slice_get pins i ≡ Some entry) × (entry.0 ≡ pin)
+
+-- a pin is one of the first so many inputs of a LUT
+abbrev pub IsInputAmong : List NameNumber → (count : ℕ) → NameNumber → Type 0
+IsInputAmong inputs count pin = (i : ℕ) × (i < count) × (slice_get inputs i ≡ Some pin)
 
 -- the pins of the first so many cells
 pub record ArePins (rec : DeviceRec) (phys : Phys) (count : ℕ) (pins : FinMap pin_order NetRef)

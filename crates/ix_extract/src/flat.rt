@@ -44,7 +44,8 @@ fn with_tables(
     })
 }
 
-/// The design with these nets; none exactly where a LUT has no function. `Memory` is the only error.
+/// The design with these nets; none exactly where a LUT has no function. `Memory` is the only
+/// error.
 pub(crate) fn with_nets(
     alloc: Global,
     on: &Netlist<'_>,

@@ -39,8 +39,8 @@ fn entry_of<'a>(placement: &'a CellPlacement, pin: NameId) -> Option<&'a PinMapp
         .find(|e| e.cell_pin == pin)
 }
 
-/// The BEL pin of a cell's pin by the pin map of its placement, on a site of this type; none exactly
-/// where it has none.
+/// The BEL pin of a cell's pin by the pin map of its placement, on a site of this type; none
+/// exactly where it has none.
 pub(crate) fn mapped_pin(
     device: &Device,
     ty: SiteTypeId,

@@ -1,6 +1,6 @@
 //! The nets of the pins of placed cells.
 
-ghost use Rattle.std.specs.Prelude.{◌≡◌, ◌<◌, ◌+◌, ◌^◌, length, nat_eq, option_map, Some, IfOk, OnOk};
+ghost use Rattle.std.specs.Prelude.{◌≡◌, ◌<◌, length, nat_eq, option_map, Some, IfOk, OnOk};
 ghost use Rattle.std.specs.Prelude.{true, false};
 ghost use Rattle.std.specs.List.{list_any};
 ghost use Rattle.ix_device.specs.PinsListed.{pins_listed};
@@ -69,7 +69,7 @@ fn put_listed(
         on.now.holders.now on.now.ranks.now }
     requires at { IsPlacedAt on.now.device.now on.now.phys.now at.now.cell at.now.placement.now
         at.now.site at.now.ty }
-    requires lut { option_map (λ l. l.now) lut.entry
+    requires lut { option_map (λ l. l.now) lut
         ≡ lut_cell_of on.now.device.now at.now.placement.now.ty }
     requires list { pins_at on.now.device.now at.now.placement.now.ty at.now.placement.now.site
         at.now.placement.now.bel ≡ Some (pins_listed list.now) }
@@ -98,7 +98,7 @@ fn put_by_device(
         on.now.holders.now on.now.ranks.now }
     requires at { IsPlacedAt on.now.device.now on.now.phys.now at.now.cell at.now.placement.now
         at.now.site at.now.ty }
-    requires lut { option_map (λ l. l.now) lut.entry
+    requires lut { option_map (λ l. l.now) lut
         ≡ lut_cell_of on.now.device.now at.now.placement.now.ty }
     requires are_on { AreOn on.now.device.now on.now.phys.now pins.old }
     ensures { OnOk result (AddsPins on.now.device.now on.now.phys.now at.now.cell

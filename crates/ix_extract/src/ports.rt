@@ -49,8 +49,8 @@ fn is_name(name: Option<NameId>, other: NameId) -> bool
 }
 
 // Whether a type is one of port cells.
-fn is_port(names: &Names, types: PortTypes, ty: NameId) -> bool
-    requires { ArePortTypes names.now types }
+fn is_port(names: &Names, types: &PortTypes, ty: NameId) -> bool
+    requires { ArePortTypes names.now types.now }
     ensures { Decides result (IsPortType names.now ty) }
 {
     is_name(types.input, ty) || is_name(types.output, ty)
@@ -59,11 +59,11 @@ fn is_port(names: &Names, types: PortTypes, ty: NameId) -> bool
 // Puts the site of a cell, where it is a port.
 fn put_site(
     on: &Netlist<'_>,
-    types: PortTypes,
+    types: &PortTypes,
     cell: u32,
     fixed: &mut CellMap<SiteId>,
 ) -> Result<(), Memory>
-    requires types { ArePortTypes on.now.names.now types }
+    requires types { ArePortTypes on.now.names.now types.now }
     requires inside { cell < length on.now.phys.now.placements }
     requires fixed { AreFixed on.now.names.now on.now.device.now on.now.phys.now cell fixed.old }
     ensures { OnOk result (AreFixed on.now.names.now on.now.device.now on.now.phys.now (cell + 1)
@@ -88,7 +88,7 @@ pub(crate) fn port_sites(alloc: Global, on: &Netlist<'_>) -> Result<CellMap<Site
     let types = port_types(on.names);
     let mut fixed = CellMap::new(alloc);
     for cell in 0..on.phys.placements.len() {
-        put_site(on, types, cell as u32, &mut fixed)?;
+        put_site(on, &types, cell as u32, &mut fixed)?;
     }
     Ok(fixed)
 }

@@ -1,6 +1,6 @@
 //! Signal nets, numbered by themselves.
 
-ghost use Rattle.std.specs.Prelude.{◌≡◌, length, map, IfOk};
+ghost use Rattle.std.specs.Prelude.{length, IfOk};
 ghost use Rattle.ix_legal.specs.Legal.{IsSmall};
 ghost use Rattle.ix_extract.specs.Taken.{AreSignals};
 

@@ -35,8 +35,8 @@ fn element_of(device: &Device, placement: &CellPlacement) -> Option<u32>
     Some(element)
 }
 
-// What the table of its element gives the cell of this number. The text is room for the table's key,
-// which is hashed once where the cell is a LUT.
+// What the table of its element gives the cell of this number. The text is room for the table's
+// key, which is hashed once where the cell is a LUT.
 fn table_of(on: &Netlist<'_>, key: &mut String, cell: u32) -> Result<LutTable, Memory>
     requires ready { TellTables on.now.names.now on.now.device.now on.now.phys.now on.now.places.now
         on.now.keys.now on.now.ends.now on.now.holders.now }

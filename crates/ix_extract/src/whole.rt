@@ -31,9 +31,9 @@ use ix_strings::Names;
 use ix_table_keys::TableKeys;
 use std::alloc::Global;
 
-// A netlist on a device, and the level at which no resource has two holders.
+// What is extracted from: a netlist on a device, and the level at which it keeps L7.
 #[derive(Clone, Copy)]
-struct Unshared<'a> {
+struct Subject<'a> {
     device: &'a Device,
     phys: &'a Phys,
     names: &'a Names,
@@ -43,7 +43,7 @@ struct Unshared<'a> {
 // With the LUTs of the device and the tables of elements.
 fn with_luts(
     alloc: Global,
-    of: &Unshared<'_>,
+    of: &Subject<'_>,
     ends: &Ends,
     holders: &Holders,
     places: &LutPlaces,
@@ -76,7 +76,7 @@ fn with_luts(
 // With the holders of resources.
 fn with_holders(
     alloc: Global,
-    of: &Unshared<'_>,
+    of: &Subject<'_>,
     ends: &Ends,
     holders: &Holders,
 ) -> Result<Option<Flat>, Memory>
@@ -93,7 +93,7 @@ fn with_holders(
 }
 
 // On this graph.
-fn with_graph(alloc: Global, of: &Unshared<'_>, graph: &NodeGraph) -> Result<Option<Flat>, Memory>
+fn with_graph(alloc: Global, of: &Subject<'_>, graph: &NodeGraph) -> Result<Option<Flat>, Memory>
     requires graph { graph.now ≡ graph_of of.now.device.now }
     requires sound { IsSound of.now.names.now of.now.phys.now }
     requires named { Everywhere (legal.IsNamed of.now.names.now of.now.device.now of.now.phys.now) }
@@ -112,13 +112,15 @@ fn with_graph(alloc: Global, of: &Unshared<'_>, graph: &NodeGraph) -> Result<Opt
 /// that the table of its element gives it, and a cell of a port's type is fixed to its site. None
 /// exactly where a LUT has no function.
 ///
-/// The graph is the device's. What is named is there, and no resource has two holders, as far as
-/// the level asks it.
+/// The graph is the device's, and the names are those of the device and of the netlist. The netlist
+/// keeps L1, and at this level L7: what it names is there, and no resource has two holders.
 ///
-/// It is linear in the netlist but for insertions into maps, one for each pin, and for look-ups by
-/// a hash: for each cell of the names of its site and its BEL, up to four times, and for each LUT of
-/// the key of its table. Memory goes by segments (some 16 bytes each), names, cells with their pins,
-/// the nodes and the sites of the device.
+/// It is linear in the netlist but for the maps of the design, into which each pin on a net, each
+/// table and each port's site is put once. For each cell the names of its site and its BEL are
+/// hashed, up to four times, and those of its BEL pins; for each LUT the key of its element's table
+/// once, and the pin map of its placement is walked over twice for each input. Memory goes by
+/// segments (some 16 bytes each), names, nets, cells with their pins, and the LUTs and the sites of
+/// the device.
 ///
 /// # Errors
 ///
@@ -140,7 +142,7 @@ pub fn extract_on(
     ensures named { DeviceNamed (length names.now) device.now
         → IfOk result (λ design. IfSome design (IsNamed (length names.now))) }
 {
-    let of = Unshared {
+    let of = Subject {
         device,
         phys,
         names,
@@ -149,8 +151,8 @@ pub fn extract_on(
     with_graph(alloc, &of, graph)
 }
 
-/// The same on a graph of its own, which it builds first, of a netlist that is legal as far as it is
-/// placed.
+/// The same on a graph of its own, which it builds first, where L7 is kept at level placed. It takes
+/// memory by the device's nodes and PIPs too.
 ///
 /// # Errors
 ///

@@ -1,11 +1,22 @@
 //! The elements that get tables, and what their LUTs force.
 
+ghost use Rattle.std.specs.Prelude.{◌≡◌, ◌<◌, ◌≤◌, ◌+◌, length, IfOk, OnOk, Some, slice_get};
+ghost use Rattle.std.specs.FinMap as map;
+ghost use Rattle.ix_phys_write.specs.Record.{IsPhysNamed};
+ghost use Rattle.ix_message.specs.Shape.{Text};
+ghost use Rattle.std.specs.Prelude.{List};
+ghost use Rattle.ix_fill_tables.specs.Forced.{usable_element as usable_element_seen, IsReady};
+ghost use Rattle.ix_fill_tables.specs.Forced.{TellsElement, TellsForced, AreForcedBy, AreForced};
+ghost use Rattle.ix_fill_tables.specs.Forced.{bits_so_far};
+
 use crate::forcing::{ForcedBits, forced_bits};
 use crate::netlist::Netlist;
 use crate::pairs::PairMap;
-use ix_lut::Tie;
-use ix_num::{BelId, Memory, NameId, SiteId, SiteTypeId};
-use ix_placed_luts::{PlacedLut, placed_lut};
+use crate::ties::ties_of;
+use ix_device::Device;
+use ix_num::Memory;
+use ix_pin_maps::places_are_one;
+use ix_placed_luts::placed_lut;
 use ix_rec::CellPlacement;
 use std::alloc::Global;
 
@@ -13,88 +24,107 @@ use std::alloc::Global;
 /// type.
 pub(crate) type Forced = PairMap<ForcedBits>;
 
-// What holds the pin of this name of a BEL of a site; none exactly where both constants do. A pin
-// that is on no wire is held by nothing.
-fn tie_of_pin(
-    on: &Netlist<'_>,
-    site: SiteId,
-    ty: SiteTypeId,
-    bel: BelId,
-    name: NameId,
-) -> Option<Tie> {
-    match on.device.bel_pin(ty, bel, name) {
-        None => Some(Tie::Free),
-        Some(pin) => match on.device.wire_of(ty, pin) {
-            None => Some(Tie::Free),
-            Some(wire) => on.constants.tie(site, wire),
-        },
-    }
-}
-
-// What holds the lines of the inputs that a placed LUT doesn't use; none exactly where both
-// constants hold one of them.
-fn ties_of(on: &Netlist<'_>, at: &PlacedLut<'_>) -> Option<[Tie; 12]> {
-    let bel = &at.shape.bels[at.place as usize];
-    let used = at.inputs.as_slice();
-    let mut ties = [Tie::Free; 12];
-    for j in 0..at.lut_bel.input_pins.len() {
-        if !used.iter().any(|place| *place as usize == j) {
-            let name = *at.lut_bel.input_pins.at(j);
-            ties[bel.lines[j] as usize] = tie_of_pin(on, at.site, at.ty, at.bel, name)?;
-        }
-    }
-    Some(ties)
-}
-
-// The bits that a placement forces.
-fn forced_by(on: &Netlist<'_>, placement: &CellPlacement) -> Option<ForcedBits> {
+// The bits that a placement forces; none exactly where the cell is no LUT or isn't placed as one,
+// the design tells no table of it, or both constants hold a wire of an input that it doesn't use.
+fn bits_of(on: &Netlist<'_>, placement: &CellPlacement) -> Option<ForcedBits>
+    requires ready { IsReady on.now.device.now on.now.flat.now on.now.phys.now on.now.names
+        on.now.places.now on.now.instances.now on.now.constants.now on.now.told.now }
+    requires named { placement.now.cell_name < on.now.names }
+    ensures { TellsForced on.now.device.now on.now.phys.now on.now.flat.now placement.now result }
+{
+    places_are_one();
     let at = placed_lut(on.device, on.places, placement)?;
     let used = at.inputs.as_slice();
-    let name = placement.cell_name;
-    let table = on.told.table(on.flat, name, used.len() as u32)?;
-    let ties = ties_of(on, &at)?;
+    let table = on
+        .told
+        .table(on.flat, on.names, placement.cell_name, used.len() as u32)?;
     let bel = &at.shape.bels[at.place as usize];
+    let ties = ties_of(on, at.site, at.ty, at.bel, at.lut_bel, bel, used)?;
     Some(forced_bits(bel, used, &ties, table.bits))
+}
+
+// The same, with no bits where it forces none.
+fn forced_by(on: &Netlist<'_>, placement: &CellPlacement) -> ForcedBits
+    requires ready { IsReady on.now.device.now on.now.flat.now on.now.phys.now on.now.names
+        on.now.places.now on.now.instances.now on.now.constants.now on.now.told.now }
+    requires named { placement.now.cell_name < on.now.names }
+    ensures { AreForcedBy on.now.device.now on.now.phys.now on.now.flat.now placement.now result }
+{
+    so_far(bits_of(on, placement))
+}
+
+// The usable element in which a cell is placed.
+fn usable_element(device: &Device, placement: &CellPlacement) -> Option<u32>
+    ensures { result ≡ usable_element_seen device.now placement.now }
+{
+    let site = device.site(placement.site)?;
+    let ty = device.type_of(site);
+    let bel = device.bel(ty, placement.bel)?;
+    let (element, _) = device.element_of(ty, bel)?;
+    device.shape(ty, element)?;
+    Some(element)
 }
 
 // The element in which a LUT is placed: the first instance of its site, and the element's number.
 // None exactly where the cell is no LUT, its site isn't in use, or its BEL is in no usable element.
-fn element_of(on: &Netlist<'_>, placement: &CellPlacement) -> Option<(u32, u32)> {
+fn element_of(on: &Netlist<'_>, placement: &CellPlacement) -> Option<(u32, u32)>
+    requires ready { IsReady on.now.device.now on.now.flat.now on.now.phys.now on.now.names
+        on.now.places.now on.now.instances.now on.now.constants.now on.now.told.now }
+    requires named { placement.now.site < on.now.names }
+    ensures { TellsElement on.now.device.now on.now.phys.now placement.now result }
+{
     on.places.cell(on.device, placement.ty)?;
-    let site = on.device.site(placement.site)?;
-    let ty = on.device.type_of(site);
-    let bel = on.device.bel(ty, placement.bel)?;
-    let (element, _) = on.device.element_of(ty, bel)?;
-    on.device.shape(ty, element)?;
+    let element = usable_element(on.device, placement)?;
     let instance = on.instances.get(placement.site.get() as usize)?;
     Some((instance, element))
 }
 
-// What one placement more forces.
-fn add_placement(
-    on: &Netlist<'_>,
-    forced: &mut Forced,
-    placement: &CellPlacement,
-) -> Result<(), Memory> {
-    let Some((instance, element)) = element_of(on, placement) else {
-        return Ok(());
-    };
-    let before = match forced.get(instance, element) {
-        None => ForcedBits::none(),
-        Some(bits) => bits,
-    };
-    let bits = match forced_by(on, placement) {
-        None => before,
-        Some(bits) => before.and(bits),
-    };
-    forced.insert(instance, element, bits)
+// The bits so far, or none.
+fn so_far(forced: Option<ForcedBits>) -> ForcedBits
+    ensures { result ≡ bits_so_far forced }
+{
+    match forced {
+        None => ForcedBits { ones: 0, zeros: 0 },
+        Some(forced) => forced,
+    }
+}
+
+// What the placement of this number forces besides.
+fn add_placement(on: &Netlist<'_>, forced: &mut Forced, k: usize) -> Result<(), Memory>
+    requires ready { IsReady on.now.device.now on.now.flat.now on.now.phys.now on.now.names
+        on.now.places.now on.now.instances.now on.now.constants.now on.now.told.now }
+    requires named { (names : List Text) × (length names ≡ on.now.names)
+        × IsPhysNamed names on.now.phys.now }
+    requires inside { k < length on.now.phys.now.placements }
+    requires forced { AreForced on.now.device.now on.now.phys.now on.now.flat.now k forced.old }
+    ensures forced { OnOk result (AreForced on.now.device.now on.now.phys.now on.now.flat.now
+        (k + 1) forced.new) }
+    ensures few { map.len forced.new ≤ map.len forced.old + 1 }
+{
+    let placement = on.phys.placements.at(k);
+    match element_of(on, placement) {
+        None => Ok(()),
+        Some((instance, element)) => {
+            let before = so_far(forced.get(instance, element));
+            let all = before.and(forced_by(on, placement));
+            forced.insert(instance, element, all)
+        }
+    }
 }
 
 /// What the LUTs of a netlist force. `Memory` is the only error.
-pub(crate) fn forced_tables(alloc: Global, on: &Netlist<'_>) -> Result<Forced, Memory> {
+pub(crate) fn forced_tables(alloc: Global, on: &Netlist<'_>) -> Result<Forced, Memory>
+    requires ready { IsReady on.now.device.now on.now.flat.now on.now.phys.now on.now.names
+        on.now.places.now on.now.instances.now on.now.constants.now on.now.told.now }
+    requires named { (names : List Text) × (length names ≡ on.now.names)
+        × IsPhysNamed names on.now.phys.now }
+    ensures forced { IfOk result (AreForced on.now.device.now on.now.phys.now on.now.flat.now
+        (length on.now.phys.now.placements)) }
+    ensures few { IfOk result (λ forced. map.len forced ≤ length on.now.phys.now.placements) }
+{
     let mut forced = Forced::new(alloc);
     for k in 0..on.phys.placements.len() {
-        add_placement(on, &mut forced, on.phys.placements.at(k))?;
+        add_placement(on, &mut forced, k)?;
     }
     Ok(forced)
 }

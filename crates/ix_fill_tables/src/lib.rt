@@ -7,7 +7,9 @@ mod forcing;
 mod netlist;
 mod pairs;
 mod properties;
+mod ties;
 mod told;
 mod whole;
 
+pub use properties::has_tables;
 pub use whole::{fill_tables, fill_tables_on};

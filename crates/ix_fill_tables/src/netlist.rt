@@ -16,6 +16,8 @@ pub(crate) struct Netlist<'a> {
     pub flat: &'a Flat,
     /// The netlist.
     pub phys: &'a Phys,
+    /// How many names there are.
+    pub names: u32,
     /// The LUTs of the device.
     pub places: &'a LutPlaces,
     /// The first instance of each site, by the number of its name.

@@ -1,6 +1,6 @@
 //! Maps from pairs of numbers.
 
-ghost use Rattle.std.specs.Prelude.{◌≡◌, ◌≢◌, ◌^◌, ◌<◌, ℕ, OnErr, OnOk, length};
+ghost use Rattle.std.specs.Prelude.{◌≡◌, ◌≢◌, ◌+◌, ◌^◌, ◌<◌, ◌≤◌, ℕ, Some, OnErr, OnOk, length};
 ghost use Rattle.std.specs.FinMap as map;
 
 use ix_num::Memory;
@@ -60,9 +60,11 @@ impl<V: Copy> PairMap<V> {
     /// Gives a pair this value, in place of the one that it has. `Memory` is the only error, and
     /// after it the map is as before.
     pub fn insert(&mut self, first: u32, second: u32, value: V) -> Result<(), Memory>
+        ensures ok { OnOk result (self.new ≡ map.insert self.old (first, second) value) }
         ensures value { OnOk result (map.get self.new (first, second) ≡ Some value) }
         ensures others { (q : ℕ × ℕ) → q ≢ (first, second)
             → map.get self.new q ≡ map.get self.old q }
+        ensures few { map.len self.new ≤ map.len self.old + 1 }
         ensures err { OnErr result (self.new ≡ self.old) }
     {
         self.values.insert((first, second), value)?;

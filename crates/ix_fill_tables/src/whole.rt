@@ -38,6 +38,7 @@ fn forced_of(
         device,
         flat,
         phys,
+        names: names.len(),
         places: &places,
         instances: &instances,
         constants: &constants,

@@ -1,0 +1,6 @@
+pub mod Firsts
+pub mod Valued
+pub mod Wires
+pub mod Unused
+pub mod Forces
+pub mod Among

@@ -1,0 +1,15 @@
+use Rattle.std.proofs.Common.{arith}
+use Rattle.ix_table_keys.proofs.Found.{one_more_by_name, none_by_name, all_by_name}
+use Rattle.ix_fill_tables.specs.Told.{name_of}
+use Rattle.ix_fill_tables.proofs.told.ToldTables.new.Goals as goal
+
+pub loop-q-init : goal.loop-q-init
+loop-q-init c = none_by_name name_of c.args.flat.now.cells c.args.names c.in_ok-cells.cells
+    c.in_ok-cells.ensures
+
+pub loop-q-preserved : goal.loop-q-preserved
+loop-q-preserved c = ?
+
+pub returns : goal.returns
+returns c = all_by_name name_of c.args.flat.now.cells c.args.names c.loop-q.q c.loop-q.cells
+    (omega arith) c.loop-q.invariant

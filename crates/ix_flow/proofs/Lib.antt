@@ -4,3 +4,4 @@ pub mod Implementing
 pub mod Answering
 pub mod Ports
 pub mod Unconnected
+pub mod Checking

@@ -45,7 +45,7 @@ use ix_job::{Content, Outcome, Stop};
 use ix_logic_read::read_netlist;
 use ix_num::{FrameRule, Memory, NameId};
 use ix_phys_write::write_phys;
-use ix_read_laws::{read_devices_fit, read_netlists_fit};
+use ix_read_laws::{devices_stay_named, read_devices_fit, read_netlists_fit};
 use ix_rec::{
     Bytes, DeviceRec, File, Flat, FlatCell, Items, NetlistRec, Phys, Place, ReadFault, Rule, Word,
 };
@@ -414,6 +414,7 @@ fn answer_for(
     ensures { Meets outcome_seen (answer_for (named_device names.old device.now)
         (content_seen design.now)) result }
 {
+    devices_stay_named();
     let frame = open(File::Design, design)?;
     let rec = read_design(alloc, &frame, names)?;
     let cells = cells_in(alloc, &rec, device, names)?;

@@ -24,7 +24,7 @@ use ix_legal::Level;
 use ix_num::Memory;
 use ix_phys_laws::{read_netlists_are_sound, read_netlists_have_room};
 use ix_phys_read::read_phys;
-use ix_read_laws::read_netlists_fit;
+use ix_read_laws::{devices_stay_named, names_are_no_fewer, read_netlists_fit};
 use ix_rec::{File, Flat, Items, NetlistRec, Phys, Place, Rule};
 use ix_report::Report;
 use ix_strings::Names;
@@ -120,6 +120,8 @@ fn check_flat(
         → Meets outcome_seen (check_flat level device.now f flat.now (content_seen physical.now))
         result }
 {
+    devices_stay_named();
+    names_are_no_fewer();
     let phys = read_physical(alloc, physical, names)?;
     judge(alloc, device, flat, phys, names, level)
 }
@@ -140,6 +142,7 @@ fn check_design(
         (content_seen physical.now)) result }
 {
     read_netlists_fit();
+    devices_stay_named();
     let flat = flat_design(alloc, rec, device, names)?;
     let flat = pinned(alloc, rec, device, flat, names)?;
     check_flat(alloc, device, &flat, physical, names, level)
@@ -159,6 +162,7 @@ fn check_on(
     ensures { Meets outcome_seen (check_on level (named_device names.old device.now)
         (content_seen design.now) (content_seen physical.now)) result }
 {
+    devices_stay_named();
     let frame = open(File::Design, design)?;
     let rec = read_design(alloc, &frame, names)?;
     check_design(alloc, device, &rec, physical, names, level)

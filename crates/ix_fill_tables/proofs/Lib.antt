@@ -4,3 +4,5 @@ pub mod Wires
 pub mod Unused
 pub mod Forces
 pub mod Among
+pub mod Digits
+pub mod Adding

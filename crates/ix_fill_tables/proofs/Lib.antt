@@ -6,3 +6,4 @@ pub mod Forces
 pub mod Among
 pub mod Digits
 pub mod Adding
+pub mod Completing

@@ -1,7 +1,11 @@
 //! Judging that is timed.
 
+ghost use Rattle.std.specs.Prelude.{◌≡◌};
+ghost use Rattle.ix_graph.specs.Graph.{graph_of};
+ghost use Rattle.ix_legal.specs.Legal.{IsSound};
+
 use crate::answer::{line_at, put_line};
-use crate::reading::given_by;
+use crate::reading::{Given, given_by};
 use anyhow::{Context, Result};
 use ix_legal::Level;
 use ix_strings::Names;
@@ -15,6 +19,21 @@ fn level_of(word: &str) -> Option<Level> {
     }
 }
 
+// Judges a netlist, prints the answer, and tells how long judging took.
+fn time_given(rt: &HostRuntime, given: &Given, names: &Names, level: Level) -> Result<()>
+    requires graph { given.now.graph ≡ graph_of given.now.device }
+    requires sound { IsSound names.now given.now.phys }
+{
+    let start = Instant::now(rt)?;
+    let line = line_at(rt.alloc(), given, names, level)?;
+    let micros = start.elapsed(rt)?.as_micros();
+    eprintln!(rt; "judged in {micros} us")?;
+    let mut text = String::new(rt.alloc());
+    put_line(&mut text, &line)?;
+    rt.println(text.as_str())?;
+    Ok(())
+}
+
 /// Judges the netlist of a file on the device of another, prints the answer, and tells how long
 /// judging took.
 pub(crate) fn time_rules(
@@ -26,12 +45,5 @@ pub(crate) fn time_rules(
     let mut names = Names::new(rt.alloc());
     let given = given_by(rt.alloc(), device, netlist, &mut names)?;
     let level = level_of(level).context("no such level")?;
-    let start = Instant::now(rt)?;
-    let line = line_at(rt.alloc(), &given, &names, level)?;
-    let micros = start.elapsed(rt)?.as_micros();
-    eprintln!(rt; "judged in {micros} us")?;
-    let mut text = String::new(rt.alloc());
-    put_line(&mut text, &line)?;
-    rt.println(text.as_str())?;
-    Ok(())
+    time_given(rt, &given, &names, level)
 }

@@ -8,11 +8,9 @@ use Rattle.ix_rec.specs.declared.device.DeviceRec.{DeviceRec}
 use Rattle.ix_rec.specs.declared.phys.CellPlacement.{CellPlacement}
 use Rattle.ix_rec.specs.declared.phys.Phys.{Phys}
 use Rattle.ix_lut.specs.Places.{ElementBits}
-use Rattle.ix_legal.specs.declared.level.Level.{Level}
 use Rattle.ix_legal.specs.Legal.{IsSound}
 use Rattle.ix_legal.specs.Names.{IsNamed}
 use Rattle.ix_legal.specs.Placements.{IsPlaced}
-use Rattle.ix_legal.specs.Sharing.{IsUnshared}
 use Rattle.ix_legal.specs.Sites.{ElementNumber, lut_cell_of}
 use Rattle.ix_legal.specs.Spots.{Everywhere}
 use Rattle.ix_lut_places.specs.Places.{ArePlaces}
@@ -21,10 +19,6 @@ use Rattle.ix_table_keys.specs.Tables.{TellsTable}
 use Rattle.ix_element_numbers.specs.Numbers.{AreNumbers, IsNumber}
 use Rattle.ix_element_numbers.specs.declared.numbers.ElementNumbers.{ElementNumbers}
 use Rattle.ix_element_tables.specs.Kept.{IsPlacedIn, HasSomeLut}
-
--- the netlist keeps L7 at a level
-abbrev pub KeepsSharing : DeviceRec → Phys → Type 0
-KeepsSharing rec phys = (level : Level) × Everywhere (IsUnshared level rec phys)
 
 -- the netlist keeps L1 and L2, and its elements have numbers
 pub record IsReady (names : List Text) (rec : DeviceRec) (phys : Phys) (places : LutPlaces)

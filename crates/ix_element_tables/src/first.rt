@@ -7,7 +7,8 @@ ghost use Rattle.ix_holders.specs.Holders.{AreHolders};
 ghost use Rattle.ix_element_numbers.specs.Numbers.{IsInElement};
 ghost use Rattle.ix_element_tables.specs.Kept.{KeepsTableAt};
 ghost use Rattle.ix_element_tables.specs.Least.{IsEarlier, IsLeast};
-ghost use Rattle.ix_element_tables.specs.Noted.{AreNoted, IsReady, KeepsSharing};
+ghost use Rattle.ix_element_tables.specs.Noted.{AreNoted, IsReady};
+ghost use Rattle.ix_element_tables.specs.Sharing.{KeepsSharing};
 
 use crate::netlist::Netlist;
 use crate::noted::NotedTables;

@@ -9,7 +9,7 @@ ghost use Rattle.ix_legal.specs.Spots.{Everywhere, Tells};
 ghost use Rattle.ix_ends.specs.Ends.{AreEnds};
 ghost use Rattle.ix_holders.specs.Holders.{AreHolders};
 ghost use Rattle.ix_lut_places.specs.Places.{ArePlaces};
-ghost use Rattle.ix_element_tables.specs.Noted.{KeepsSharing};
+ghost use Rattle.ix_element_tables.specs.Sharing.{KeepsSharing};
 
 use crate::first::first_break;
 use crate::netlist::Netlist;

@@ -137,6 +137,7 @@ record Counts (v : Value ℕ phys_netlist) : Type 0 where
   nets_listed : length v.1.1.1.0 ≤ most_entries
   site_insts : length v.1.1.1.1.0 ≤ most_entries
   properties : length v.1.1.1.1.1.0 ≤ most_entries
+  together : length v.1.1.0 + length v.1.1.1.1.1.0 ≤ most_entries
 
 counts : (v : Value ℕ phys_netlist) → structs_in phys_netlist v ≤ most_entries + 1 → Counts v
 unfolding structs_in parts_in
@@ -155,17 +156,34 @@ counts v few =
       nets_listed = omega arith;
       site_insts = omega arith;
       properties = omega arith;
+      together = omega arith;
     }
+
+-- lists of the record are as long as those of its numbers
+placements_listed : (names table : List Text) (v : Value ℕ phys_netlist) (phys : Phys)
+    → record_of table phys_netlist v ≡ phys_record names phys
+    → length phys.placements ≡ length v.1.1.0
+unfolding record_of
+placements_listed names table v phys made =
+    sym (length-map phys.placements (placement_record names))
+    ∙ sym (ap (λ (r : Value Datum phys_netlist). length r.1.1.0) made)
+    ∙ length-map v.1.1.0 (record_of table cell_placement)
+
+properties_listed : (names table : List Text) (v : Value ℕ phys_netlist) (phys : Phys)
+    → record_of table phys_netlist v ≡ phys_record names phys
+    → length phys.properties ≡ length v.1.1.1.1.1.0
+unfolding record_of
+properties_listed names table v phys made =
+    sym (length-map phys.properties (property_record names))
+    ∙ sym (ap (λ (r : Value Datum phys_netlist). length r.1.1.1.1.1.0) made)
+    ∙ length-map v.1.1.1.1.1.0 (record_of table property)
 
 small : (names table : List Text) (v : Value ℕ phys_netlist) (phys : Phys) → Counts v
     → record_of table phys_netlist v ≡ phys_record names phys
     → AllByRecursion HasForests phys.nets → IsSmall phys
 unfolding record_of
 small names table v phys h made forests =
-    let ps : length phys.placements ≡ length v.1.1.0 =
-    sym (length-map phys.placements (placement_record names))
-    ∙ sym (ap (λ (r : Value Datum phys_netlist). length r.1.1.0) made)
-    ∙ length-map v.1.1.0 (record_of table cell_placement) in
+    let ps = placements_listed names table v phys made in
     let ns : length phys.nets ≡ length v.1.1.1.0 =
     sym (length-map phys.nets (net_record names))
     ∙ sym (ap (λ (r : Value Datum phys_netlist). length r.1.1.1.0) made)
@@ -174,10 +192,7 @@ small names table v phys h made forests =
     sym (length-map phys.site_insts (site_instance_record names))
     ∙ sym (ap (λ (r : Value Datum phys_netlist). length r.1.1.1.1.0) made)
     ∙ length-map v.1.1.1.1.0 (record_of table site_instance) in
-    let qs : length phys.properties ≡ length v.1.1.1.1.1.0 =
-    sym (length-map phys.properties (property_record names))
-    ∙ sym (ap (λ (r : Value Datum phys_netlist). length r.1.1.1.1.1.0) made)
-    ∙ length-map v.1.1.1.1.1.0 (record_of table property) in
+    let qs = properties_listed names table v phys made in
     let listed = h.nets_listed in
     let placed = h.placements in
     let sited = h.site_insts in
@@ -191,15 +206,20 @@ small names table v phys h made forests =
           (ap (λ (r : Value Datum phys_netlist). r.1.1.1.0) made) forests h.nets;
     }
 
+-- the structs of a netlist that was read are few
+read_few : (all : Segments) (r : Value Datum phys_netlist) (n : Numbered all r)
+    → whole_budget all ≤ 2 ^ 28 + 64 → structs_in phys_netlist n.v ≤ most_entries + 1
+read_few all r n short =
+    let bound = has_it _ (numbers_in_segments phys_netlist all) (n.table, n.v) n.read
+    (message_bound phys_netlist refl all) in omega (arith, bound.0)
+
 pub read_sound : (names : List Text) (all : Segments) (phys : Phys)
     → whole_budget all ≤ 2 ^ 28 + 64
     → reading_in_segments phys_netlist all ≡ Ok (phys_record names phys)
     → IsPhysNamed names phys → All HasForests phys.nets → AllDiffer names → IsSound names phys
 read_sound names all phys short is named forests differ =
     let n = numbered all (phys_record names phys) is in
-    let bound = has_it _ (numbers_in_segments phys_netlist all) (n.table, n.v) n.read
-    (message_bound phys_netlist refl all) in
-    let few : structs_in phys_netlist n.v ≤ most_entries + 1 = omega (arith, bound.0) in
+    let few = read_few all (phys_record names phys) n short in
     let each = recursion_from_All HasForests phys.nets forests in
     record {
       small = small names n.table n.v phys (counts n.v few) n.made each;
@@ -207,3 +227,13 @@ read_sound names all phys short is named forests differ =
       named = named;
       preorder = each;
     }
+
+pub read_has_room : (names : List Text) (all : Segments) (phys : Phys)
+    → whole_budget all ≤ 2 ^ 28 + 64
+    → reading_in_segments phys_netlist all ≡ Ok (phys_record names phys)
+    → length phys.placements + length phys.properties ≤ most_entries
+read_has_room names all phys short is =
+    let n = numbered all (phys_record names phys) is in
+    let both = (counts n.v (read_few all (phys_record names phys) n short)).together in
+    let ps = placements_listed names n.table n.v phys n.made in
+    let qs = properties_listed names n.table n.v phys n.made in omega arith

@@ -1,6 +1,6 @@
-//! A law on netlists that were read, over the definitions alone.
+//! Laws on netlists that were read, over the definitions alone.
 
-ghost use Rattle.ix_phys_laws.specs.Laws.{ReadNetlistsAreSound};
+ghost use Rattle.ix_phys_laws.specs.Laws.{ReadNetlistsAreSound, ReadNetlistsHaveRoom};
 
 /// A physical netlist that was read is sound: its lists are no longer than a file can tell, its
 /// numbers are names, and its trees are in preorder. What this asks are the clauses of `read_phys`,
@@ -8,4 +8,9 @@ ghost use Rattle.ix_phys_laws.specs.Laws.{ReadNetlistsAreSound};
 /// `read_phys` that asks `Names::len` after it and calls this has the whole.
 pub fn read_netlists_are_sound()
     ensures { ReadNetlistsAreSound }
+{}
+
+/// A physical netlist that was read has room for a property for each of its placements.
+pub fn read_netlists_have_room()
+    ensures { ReadNetlistsHaveRoom }
 {}

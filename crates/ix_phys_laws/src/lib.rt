@@ -3,4 +3,4 @@
 
 mod laws;
 
-pub use laws::read_netlists_are_sound;
+pub use laws::{read_netlists_are_sound, read_netlists_have_room};

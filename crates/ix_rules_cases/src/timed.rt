@@ -6,9 +6,11 @@ ghost use Rattle.ix_legal.specs.Legal.{IsSound};
 
 use crate::answer::{line_at, put_line};
 use crate::reading::{Given, given_by};
-use anyhow::{Context, Result};
+use crate::words::Words;
+use anyhow::{Context, Result, bail};
 use ix_legal::Level;
 use ix_strings::Names;
+use std::fs;
 use std::time::Instant;
 
 fn level_of(word: &str) -> Option<Level> {
@@ -34,16 +36,21 @@ fn time_given(rt: &HostRuntime, given: &Given, names: &Names, level: Level) -> R
     Ok(())
 }
 
-/// Judges the netlist of a file on the device of another, prints the answer, and tells how long
-/// judging took.
-pub(crate) fn time_rules(
-    rt: &HostRuntime,
-    device: &[u8],
-    netlist: &[u8],
-    level: &str,
-) -> Result<()> {
+// The same of the bytes of a device and of a netlist. The level is looked at behind both.
+fn time_bytes(rt: &HostRuntime, device: &[u8], netlist: &[u8], level: &str) -> Result<()> {
     let mut names = Names::new(rt.alloc());
     let given = given_by(rt.alloc(), device, netlist, &mut names)?;
     let level = level_of(level).context("no such level")?;
     time_given(rt, &given, &names, level)
+}
+
+/// Judges the netlist of a file on the device of another, prints the answer, and tells how long
+/// judging took.
+pub(crate) fn time_files(rt: &HostRuntime, words: &Words) -> Result<()> {
+    let (Some(netlist), Some(level)) = (&words.netlist, &words.level) else {
+        bail!("no netlist or no level");
+    };
+    let device = fs::read(rt, words.file.as_str())?;
+    let netlist = fs::read(rt, netlist.as_str())?;
+    time_bytes(rt, &device, &netlist, level.as_str())
 }

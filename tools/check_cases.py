@@ -221,7 +221,7 @@ RUN = [
     ("a netlist whose root points at itself", WORDS, f"{HERE} p=#{SELF}", "1 no: F4 at word 0:0"),
     ("the same, placed", WORDS + ",--placed", f"{HERE} p=#{SELF}", "1 no: F4 at word 0:0"),
     ("an empty device, and a netlist that is empty too", WORDS, "d=# n=driver_and_load p=#", "3 device: F1 at file"),
-    ("a device with a tile of no type", WORDS, "d=tile_of_no_type n=# p=#", "3 device: I1 at Tile.type 0"),
+    ("a device with a tile of no type", WORDS, "d=tile_of_no_type n=# p=#", "3 device: I1 at Tile.type 1"),
     ("a device with two tiles of one name", WORDS, "d=two_tiles_of_one_name n=# p=#", "3 device: M1 at Tile.name 1"),
     ("an empty design, and a netlist that is empty too", WORDS, "d=joined_ends n=# p=#", "3 design: F1 at file"),
     ("a design without a driver, and an empty netlist", WORDS, "d=parts n=no_driver p=#", "3 design: N4 at u/n"),

@@ -7,3 +7,4 @@ pub mod Among
 pub mod Digits
 pub mod Adding
 pub mod Completing
+pub mod Wholly

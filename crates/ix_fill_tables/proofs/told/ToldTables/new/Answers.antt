@@ -8,7 +8,9 @@ loop-q-init c = none_by_name name_of c.args.flat.now.cells c.args.names c.in_ok-
     c.in_ok-cells.ensures
 
 pub loop-q-preserved : goal.loop-q-preserved
-loop-q-preserved c = ?
+loop-q-preserved c = one_more_by_name name_of c.args.flat.now.cells c.args.names c.loop-q.q
+    c.get.result c.at.result.now c.loop-q.cells c.put.new.self c.at.ensures c.get.ensures
+    c.loop-q.invariant (λ j. c.put.ensures j)
 
 pub returns : goal.returns
 returns c = all_by_name name_of c.args.flat.now.cells c.args.names c.loop-q.q c.loop-q.cells

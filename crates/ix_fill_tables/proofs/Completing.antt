@@ -12,7 +12,7 @@ use Rattle.std.specs.FinMap.{FinMap, nat_cmp-IsAntisymmetric, get, get-entries, 
 use Rattle.std.specs.FinMap.Entries.{find, find_tied, below_all, is_sorted}
 use Rattle.std.proofs.lemmas.Bool.{false≢true, true≢false, eq-eqb, eqb-true, ltb-true}
 use Rattle.std.proofs.lemmas.Cmp.{eq_by_cmp_equiv}
-use Rattle.std.proofs.lemmas.Nat.Bits.{bit_at-lt, bit_at_and, bit_at-zero, same_from_bits}
+use Rattle.std.proofs.lemmas.Nat.Bits.{bit_at_and, bit_at-zero, same_from_bits}
 use Rattle.std.proofs.lemmas.Option.{none-some, same_Some, slice_get_within, get_or_from_slice_get}
 use Rattle.ix_rec.specs.Maps.{pin_order, pin_order_total, pin_order-IsAntisymmetric}
 use Rattle.ix_rec.specs.declared.device.DeviceRec.{DeviceRec}
@@ -22,6 +22,7 @@ use Rattle.ix_rec.specs.declared.phys.Phys.{Phys}
 use Rattle.ix_rec.specs.declared.phys.SiteInstance.{SiteInstance}
 use Rattle.ix_device.proofs.OptionLemmas.{position-at}
 use Rattle.ix_legal.specs.Sites.{shape_at}
+use Rattle.ix_lut.proofs.Bits.{bit_cases}
 use Rattle.ix_table_keys.specs.Places.{site_of}
 use Rattle.ix_table_keys.proofs.Found.{stands_at}
 use Rattle.ix_fill_tables.specs.Bits.{clashes}
@@ -71,7 +72,7 @@ found_at q v (x ∷ es) h = by (eq_by_cmp pin_order q x.0) refl h (found_at q v 
     by false other h rest = let at = rest h in (suc at.0, at.1)
 
 -- and an entry is what is found
-entry_found : (es : List Entry) → T (is_sorted pin_order es) → (j : ℕ) (e : Entry)
+pub entry_found : (es : List Entry) → T (is_sorted pin_order es) → (j : ℕ) (e : Entry)
     → slice_get es j ≡ Some e → find pin_order e.0 es ≡ Some e.1
 entry_found [] sorted j e at = absurd (none-some e at)
 entry_found (x ∷ es) sorted zero e at =
@@ -185,11 +186,11 @@ rising_in (x ∷ es) sorted j k a b less at_j at_k = by (clashes x.1) j k less a
 
 no_clash : (f : ForcedBits) → clashes f ≡ false → (at : ℕ) → bit_at f.ones at ≡ 1
     → bit_at f.zeros at ≡ 1 → ⊥
-no_clash f none at one zero =
+no_clash f none at one also =
     let nothing : bit_and f.ones f.zeros ≡ 0 = by (nat_eq (bit_and f.ones f.zeros) 0) refl none in
     let none_there = ap (λ w. bit_at w at) nothing ∙ bit_at-zero at in
     let is = bit_at_and f.ones f.zeros at in
-    omega (arith, is, none_there, one, zero)
+    omega (arith, is, none_there, one, also)
   where
     by : (b : Bool) → nat_eq (bit_and f.ones f.zeros) 0 ≡ b → not b ≡ false
         → bit_and f.ones f.zeros ≡ 0
@@ -205,10 +206,13 @@ apart_clash f apart = ap not (eq-eqb (bit_and f.ones f.zeros) 0
     each at =
         let is = bit_at_and f.ones f.zeros at in
         let zero = bit_at-zero at in
-        let one_small = bit_at-lt f.ones at in
-        let zero_small = bit_at-lt f.zeros at in
-        let never = apart at in
-        omega (arith, is, zero, one_small, zero_small, never)
+        elim (bit_cases f.ones at) [
+          | inl none ↦ omega (arith, is, zero, none)
+          | inr one ↦ elim (bit_cases f.zeros at) [
+            | inl none ↦ omega (arith, is, zero, none)
+            | inr also ↦ absurd (apart at one also)
+          ]
+        ]
 
 -- One element.
 module _ (rec : DeviceRec) (phys : Phys) (flat : Flat) (i element : ℕ) where
@@ -349,14 +353,18 @@ module _ (rec : DeviceRec) (phys : Phys) (flat : Flat) (i element : ℕ) where
       where
         each : (at : ℕ) → bit_at f.ones at ≡ bit_at bits at
         each at =
-            let small = bit_at-lt f.ones at in
-            let also_small = bit_at-lt bits at in
             let to = λ (one : bit_at f.ones at ≡ 1). (gets.is_table.ones at).1
             (forced gets.instance gets.instance_is first_here at 1 ((are.ones at).0 one)) in
             let back = λ (one : bit_at bits at ≡ 1). (are.ones at).1
             (among gets.instance gets.instance_is first_here at 1
             ((gets.is_table.ones at).0 one)) in
-            omega (arith, small, also_small, to, back)
+            elim (bit_cases f.ones at) [
+              | inl none ↦ elim (bit_cases bits at) [
+                | inl also ↦ none ∙ sym also
+                | inr one ↦ back one ∙ sym one
+              ]
+              | inr one ↦ one ∙ sym (to one)
+            ]
 
 -- All of them.
 pub are_fillings : (rec : DeviceRec) (phys : Phys) (flat : Flat)

@@ -1,8 +1,7 @@
 -- Properties that are added one after another.
 use Rattle.std.proofs.Common.{◌≡◌, ◌<◌, ◌≤◌, ◌+◌, ◌*◌, ◌∙◌, refl, ap, sym, subst, ℕ, zero, suc}
-use Rattle.std.proofs.Common.{arith, inl, inr, List, [], ◌∷◌, ◌++◌, length, slice_get, Some, None}
+use Rattle.std.proofs.Common.{arith, inl, inr, List, [], ◌∷◌, ◌++◌, length, slice_get, Some}
 use Rattle.std.proofs.Common.{Bool, true, false, option_and_then, if◌then◌else◌}
-use Rattle.std.proofs.lemmas.Bool.{true≢false, false≢true}
 use Rattle.std.proofs.lemmas.List.{append_assoc, append-nil, length-append}
 use Rattle.std.proofs.lemmas.Option.{none-some, same_Some, slice_get_within}
 use Rattle.ix_message.specs.Shape.{Text}
@@ -14,7 +13,7 @@ use Rattle.ix_device.proofs.NumberedLemmas.{there_is}
 use Rattle.ix_ends.proofs.Items.{chained, from_both, into_second}
 use Rattle.ix_fill_tables.specs.Bits.{clashes}
 use Rattle.ix_fill_tables.specs.Completed.{Filling}
-use Rattle.ix_fill_tables.specs.Filled.{TellsTable, TellsIt, with_filling, fillings_of, AreAdded}
+use Rattle.ix_fill_tables.specs.Filled.{TellsTable, TellsIt, fillings_of, AreAdded}
 use Rattle.ix_fill_tables.specs.Filled.{IsAdded, AddsTable, HasSite, HaveSites}
 use Rattle.ix_fill_tables.specs.declared.forcing.ForcedBits.{ForcedBits}
 

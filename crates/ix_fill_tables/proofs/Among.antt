@@ -1,12 +1,12 @@
 -- What placements force in elements, one after another.
-use Rattle.std.proofs.Common.{◌≡◌, ◌≢◌, ◌⊎◌, ◌<◌, ◌+◌, ◌∙◌, ◌↔◌, refl, ap, sym, subst, ℕ, arith}
-use Rattle.std.proofs.Common.{inl, inr, List, length, slice_get, Option, Some, None, option_map}
+use Rattle.std.proofs.Common.{◌≡◌, ◌≢◌, ◌⊎◌, ◌+◌, ◌∙◌, ◌↔◌, ap, sym, subst, ℕ, arith}
+use Rattle.std.proofs.Common.{inl, inr, slice_get, Option, Some, None, option_map}
 use Rattle.std.proofs.Common.{option_and_then, max}
 use Rattle.std.specs.Int.{bit_at}
 use Rattle.std.specs.FinMap.{FinMap, get, empty, get-empty}
 use Rattle.std.proofs.lemmas.Bool.{cases_lt, cases_eq}
 use Rattle.std.proofs.lemmas.Nat.Bits.{bit_at-lt, bit_at-zero}
-use Rattle.std.proofs.lemmas.Option.{none-some, same_Some}
+use Rattle.std.proofs.lemmas.Option.{same_Some}
 use Rattle.ix_rec.specs.Maps.{pin_order}
 use Rattle.ix_rec.specs.declared.device.DeviceRec.{DeviceRec}
 use Rattle.ix_rec.specs.declared.device.SiteType.{SiteType}

@@ -1,16 +1,16 @@
 -- The elements that get tables, all of them and in order.
-use Rattle.std.proofs.Common.{◌≡◌, ◌≢◌, ◌⊎◌, ◌<◌, ◌≤◌, ◌+◌, ◌*◌, ◌∙◌, ◌↔◌, refl, ap, sym, subst}
-use Rattle.std.proofs.Common.{ℕ, zero, suc, arith, inl, inr, List, [], ◌∷◌, ◌++◌, length, slice_get}
+use Rattle.std.proofs.Common.{◌≡◌, ◌⊎◌, ◌<◌, ◌∙◌, refl, ap, sym, subst}
+use Rattle.std.proofs.Common.{ℕ, zero, suc, arith, inl, inr, List, [], ◌∷◌, length, slice_get}
 use Rattle.std.proofs.Common.{Option, Some, None, Bool, true, false, ◌&&◌, T, cond, nat_eq, not}
-use Rattle.std.proofs.Common.{nat_lt, bit_and, min, if◌then◌else◌, Contains, Ordering}
+use Rattle.std.proofs.Common.{nat_lt, bit_and, if◌then◌else◌, Contains, Ordering}
 use Rattle.std.specs.declared.cmp.Ordering.TheVariants.{Less, Equal, Greater}
 use Rattle.std.specs.Int.{bit_at}
-use Rattle.std.specs.Cmp.{IsTotalOrder, Equal-is}
-use Rattle.std.specs.Ordering.{eq_by_cmp, is_eq, is_lt, nat_cmp, ordering_then}
+use Rattle.std.specs.Cmp.{Equal-is}
+use Rattle.std.specs.Ordering.{eq_by_cmp, is_lt, nat_cmp, ordering_then}
 use Rattle.std.specs.Bool.{◌==◌}
 use Rattle.std.specs.FinMap.{FinMap, nat_cmp-IsAntisymmetric, get, get-entries, entries, entries_sorted}
-use Rattle.std.specs.FinMap.Entries.{find, find_tied, below_all, is_sorted}
-use Rattle.std.proofs.lemmas.Bool.{false≢true, true≢false, eq-eqb, eqb-true, ltb-true}
+use Rattle.std.specs.FinMap.Entries.{find, below_all, is_sorted}
+use Rattle.std.proofs.lemmas.Bool.{true≢false, eq-eqb, eqb-true, ltb-true}
 use Rattle.std.proofs.lemmas.Cmp.{eq_by_cmp_equiv}
 use Rattle.std.proofs.lemmas.Nat.Bits.{bit_at_and, bit_at-zero, same_from_bits}
 use Rattle.std.proofs.lemmas.Option.{none-some, same_Some, slice_get_within, get_or_from_slice_get}
@@ -27,13 +27,12 @@ use Rattle.ix_table_keys.specs.Places.{site_of}
 use Rattle.ix_table_keys.proofs.Found.{stands_at}
 use Rattle.ix_fill_tables.specs.Bits.{clashes}
 use Rattle.ix_fill_tables.specs.Completed.{AreFillings, Filling, GetsTable, IsEarlier, IsForced}
-use Rattle.ix_fill_tables.specs.Completed.{IsForcedTable}
 use Rattle.ix_fill_tables.specs.Filled.{fillings_of}
 use Rattle.ix_fill_tables.specs.Forced.{AreForced, AreForcedThere, HasPlacement, IsForcedAmong}
 use Rattle.ix_fill_tables.specs.Forced.{IsPlacedIn, TellsThere, first_instance}
 use Rattle.ix_fill_tables.specs.declared.forcing.ForcedBits.{ForcedBits}
 use Rattle.ix_fill_tables.proofs.Adding.{Entry, filling_of}
-use Rattle.ix_fill_tables.proofs.Among.{IsUsable, found_usable, usable_there}
+use Rattle.ix_fill_tables.proofs.Among.{found_usable, usable_there}
 use Rattle.ix_fill_tables.proofs.Firsts.{is_first, none_earlier}
 
 -- Entries of maps.
@@ -398,8 +397,7 @@ are_fillings rec phys flat forced are = record {
         let k = filling_there (entries forced) at.0 ((f.instance, f.element), its.0) at.1 its.2 in
         let there : slice_get (fillings_of (entries forced)) k.0 ≡ Some f =
         k.1 ∙ ap (λ b. Some (record { instance = f.instance; element = f.element; bits = b }))
-        its.3 in
-        (
+        its.3 in (
           k.0,
           slice_get_within (fillings_of (entries forced)) k.0 f there,
           get_or_from_slice_get (fillings_of (entries forced)) k.0 f f there,

@@ -1,12 +1,11 @@
 -- The completed netlist.
-use Rattle.std.proofs.Common.{◌≡◌, ◌<◌, ◌≤◌, ◌+◌, ◌*◌, ◌∙◌, refl, ap, sym, subst, ℕ, arith, inl, inr}
-use Rattle.std.proofs.Common.{zero, suc, List, [], ◌∷◌, ◌++◌, length, slice_get, slice_index_or, Some}
-use Rattle.std.proofs.Common.{None, Bool, true, false, if◌then◌else◌, nat_eq, Result, Ok, Err, IfOk}
-use Rattle.std.specs.List.{All, position, Contains}
+use Rattle.std.proofs.Common.{◌≡◌, ◌<◌, ◌≤◌, ◌+◌, ◌∙◌, ap, sym, subst, ℕ, arith, inl, inr}
+use Rattle.std.proofs.Common.{List, [], ◌∷◌, length, slice_get, slice_index_or, Some}
+use Rattle.std.proofs.Common.{Bool, true, false, if◌then◌else◌, nat_eq, Result, Ok, Err, IfOk}
+use Rattle.std.specs.List.{All}
 use Rattle.std.specs.FinMap.{FinMap, get, get-entries, entries, entries_sorted, len, len-entries}
-use Rattle.std.proofs.lemmas.Bool.{eqb-true}
 use Rattle.std.proofs.lemmas.List.{length-append}
-use Rattle.std.proofs.lemmas.Option.{none-some, same_Some, slice_get_within, get_or_from_slice_get}
+use Rattle.std.proofs.lemmas.Option.{same_Some, slice_get_within, get_or_from_slice_get}
 use Rattle.std.proofs.lemmas.Option.{slice_get-get_or}
 use Rattle.ix_message.specs.Shape.{Text}
 use Rattle.ix_strings.specs.Names.{KeepsNumbers}
@@ -25,14 +24,13 @@ use Rattle.ix_phys_write.specs.Record.{IsPhysNamed, IsMappingNamed, IsPlacementN
 use Rattle.ix_phys_write.specs.Record.{IsInstanceNamed, IsPropertyNamed, IsSegmentNamed, IsNetNamed}
 use Rattle.ix_device.proofs.NumberedLemmas.{there_is}
 use Rattle.ix_device.proofs.OptionLemmas.{position-at}
-use Rattle.ix_legal.specs.Legal.{IsSound}
 use Rattle.ix_legal.specs.TableKeys.{table_bits}
 use Rattle.ix_ends.proofs.Items.{chained, from_both}
 use Rattle.ix_table_keys.specs.Places.{site_of}
 use Rattle.ix_table_keys.proofs.Found.{stands_at}
 use Rattle.ix_fill_tables.specs.Bits.{clashes}
-use Rattle.ix_fill_tables.specs.Completed.{Filling, HasTables, IsCompleted, IsFilled, TellsFilling}
-use Rattle.ix_fill_tables.specs.Filled.{AreAdded, HasSite, HaveSites, TellsIt, fillings_of}
+use Rattle.ix_fill_tables.specs.Completed.{Filling, HasTables, IsCompleted}
+use Rattle.ix_fill_tables.specs.Filled.{AreAdded, HaveSites, TellsIt, fillings_of}
 use Rattle.ix_fill_tables.specs.Forced.{AreForced, TellsThere}
 use Rattle.ix_fill_tables.specs.Whole.{IsWithTables}
 use Rattle.ix_fill_tables.specs.declared.forcing.ForcedBits.{ForcedBits}

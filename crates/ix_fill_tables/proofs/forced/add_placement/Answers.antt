@@ -1,5 +1,4 @@
-use Rattle.std.proofs.Common.{◌≡◌, ◌∙◌, ap, max, ℕ}
-use Rattle.std.specs.FinMap.{get}
+use Rattle.std.proofs.Common.{◌∙◌, ap, max}
 use Rattle.std.specs.Int.{bit_at}
 use Rattle.ix_fill_tables.specs.Forced.{bits_so_far}
 use Rattle.ix_fill_tables.specs.declared.forcing.ForcedBits.{ForcedBits}

@@ -1,8 +1,7 @@
-use Rattle.std.proofs.Common.{◌≡◌, ◌<◌, ◌≤◌, ◌∙◌, sym, subst, ap, ℕ, List, arith, length, Some, None}
+use Rattle.std.proofs.Common.{◌∙◌, sym, subst, ℕ, List, arith}
 use Rattle.ix_placed_luts.specs.Placed.{IsPlaced}
 use Rattle.ix_placed_luts.proofs.Placing.{type_inside, all_lines_there, bel_usable, places_inside}
 use Rattle.ix_fill_tables.specs.Forced.{TellsForced}
-use Rattle.ix_fill_tables.specs.Ties.{TellsTies}
 use Rattle.ix_fill_tables.proofs.Forces.{none_placed, none_told, none_held, are_forced}
 use Rattle.ix_fill_tables.proofs.forced.bits_of.Goals as goal
 

@@ -1,4 +1,4 @@
-use Rattle.std.proofs.Common.{◌≡◌, ◌≤◌, ◌∙◌, ap, sym, subst, arith, length, refl}
+use Rattle.std.proofs.Common.{◌≡◌, ◌≤◌, ◌∙◌, ap, sym, subst, arith, length}
 use Rattle.std.specs.FinMap.{len, len-empty}
 use Rattle.ix_rec.specs.Maps.{pin_order}
 use Rattle.ix_fill_tables.specs.Forced.{AreForced}

@@ -1,9 +1,9 @@
-use Rattle.std.proofs.Common.{◌≡◌, ◌≤◌, ◌+◌, ◌∙◌, sym, arith, length}
+use Rattle.std.proofs.Common.{◌≤◌, ◌+◌, ◌∙◌, sym, arith, length}
 use Rattle.std.specs.FinMap.{entries, len-entries}
 use Rattle.std.proofs.lemmas.Bool.{true≢false}
 use Rattle.ix_phys_write.specs.Record.{IsPhysNamed}
 use Rattle.ix_rec.specs.declared.phys.Phys.{Phys}
-use Rattle.ix_fill_tables.specs.Completed.{HasTables, IsCompleted}
+use Rattle.ix_fill_tables.specs.Completed.{IsCompleted}
 use Rattle.ix_fill_tables.specs.Filled.{fillings_of}
 use Rattle.ix_fill_tables.specs.Whole.{IsWithTables}
 use Rattle.ix_fill_tables.proofs.Wholly.{completed, few_properties, have_sites, if_ok, named_after}

@@ -8,7 +8,8 @@ use Rattle.std.specs.Int.{bit_at}
 use Rattle.std.specs.Cmp.{Equal-is}
 use Rattle.std.specs.Ordering.{eq_by_cmp, is_lt, nat_cmp, ordering_then}
 use Rattle.std.specs.Bool.{◌==◌}
-use Rattle.std.specs.FinMap.{FinMap, nat_cmp-IsAntisymmetric, get, get-entries, entries, entries_sorted}
+use Rattle.std.specs.FinMap.{FinMap, nat_cmp-IsAntisymmetric, get, get-entries, entries}
+use Rattle.std.specs.FinMap.{entries_sorted}
 use Rattle.std.specs.FinMap.Entries.{find, below_all, is_sorted}
 use Rattle.std.proofs.lemmas.Bool.{true≢false, eq-eqb, eqb-true, ltb-true}
 use Rattle.std.proofs.lemmas.Cmp.{eq_by_cmp_equiv}
@@ -79,7 +80,8 @@ entry_found (x ∷ es) sorted zero e at =
     (ap (λ b. cond b (Some x.1) (find pin_order x.0 es))
     ((eq_by_cmp_equiv pin_order_total).refl x.0))
 entry_found (x ∷ es) sorted (suc j) e at = by (eq_by_cmp pin_order e.0 x.0) refl
-    (entry_found es (both_right (below_all pin_order x.0 es) (is_sorted pin_order es) sorted) j e at)
+    (entry_found es (both_right (below_all pin_order x.0 es) (is_sorted pin_order es) sorted) j e
+    at)
   where
     less : T (is_lt (pin_order x.0 e.0))
     less = below_each x.0 es

@@ -1,7 +1,8 @@
 -- The wires that constants hold, step by step.
 use Rattle.std.proofs.Common.{◌≡◌, ◌≢◌, ◌⊎◌, ◌+◌, ◌∙◌, refl, ap, sym, subst, ℕ, arith, inl, inr}
 use Rattle.std.proofs.Common.{List, length, slice_get, Option, Some, None, option_map}
-use Rattle.std.proofs.Common.{Result, Ok, Err, OnOk, option_and_then, Bool, true, false, true≢false, ◌↔◌}
+use Rattle.std.proofs.Common.{Result, Ok, Err, OnOk, option_and_then, Bool, true, false, ◌↔◌}
+use Rattle.std.proofs.Common.{true≢false}
 use Rattle.std.proofs.lemmas.Bool.{cases_lt, cases_eq, false≢true}
 use Rattle.std.proofs.lemmas.Option.{none-some, same_Some, slice_get_within}
 use Rattle.std.specs.FinMap.{get, empty, get-empty}
@@ -247,7 +248,8 @@ module _ (rec : DeviceRec) (net : PhysNet) (one : Constant) (c : Constant) (s w 
       → (branch : Branch Segment) × (slice_get (segments net) k ≡ Some branch)
       × IsEither one (ends rec branch.item) c s w
   of_segment k segment both at is h =
-      let branch = mapped (λ (b : Branch Segment). b.item) (slice_get (segments net) k) segment at in (
+      let branch = mapped (λ (b : Branch Segment). b.item) (slice_get (segments net) k) segment
+      at in (
         branch.0,
         branch.1,
         subst (λ o. IsEither one o c s w) (sym (ap (ends rec) branch.2 ∙ is)) h,

@@ -114,13 +114,13 @@ pub fn fill_tables_on(
     with_tables(alloc, phys, names, &forced)
 }
 
-/// The netlist with the tables that its LUTs force, by the tables that the flat design tells: behind
-/// its properties, by instance of a site and then by element. A netlist that has a property whose
-/// key begins with `TABLE/` stays as it is.
+/// The netlist with the tables that its LUTs force, by the tables that the flat design tells:
+/// behind its properties, by instance of a site and then by element. A netlist that has a property
+/// whose key begins with `TABLE/` stays as it is.
 ///
 /// A LUT forces the bits that give it its table of the design, whatever the values of inputs that
-/// it doesn't use, as long as they agree with the constants that hold their wires. An element gets a
-/// table where a LUT is placed in it and it is usable, but not where a bit is forced both ways.
+/// it doesn't use, as long as they agree with the constants that hold their wires. An element gets
+/// a table where a LUT is placed in it and it is usable, but not where a bit is forced both ways.
 ///
 /// At most two names a placement are added, each with its own number kept. `Memory` is the only
 /// error; the names may have grown then.

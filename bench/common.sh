@@ -20,3 +20,14 @@ measure() { # NAME COMMAND..: times a command that runs `runs` times
     read -r middle least busy memory < <(python3 "$here/measure.py" "$runs" 0 "$@")
     row "$name" "$middle" "$least" "$busy" "$memory"
 }
+
+alone() { # COMMAND..: the median and the least of `runs` times that a command tells on standard error, as `.. in N us`
+    for ((i = 0; i < runs; i++)); do
+        "$@" 2>&1 >/dev/null
+    done | awk '{ print $3 }' | sort -n | awk '{ t[NR] = $1 } END { print t[int((NR + 1) / 2)], t[1] }'
+}
+
+instructions() { # COMMAND..: how many instructions a command takes
+    valgrind --tool=cachegrind --cache-sim=no --cachegrind-out-file=/dev/null "$@" 2>&1 >line |
+        awk '/I +refs/ { gsub(",", "", $NF); print $NF }'
+}

@@ -35,6 +35,10 @@ impl<'a> Context<'a> {
         })
     }
 
+    pub fn find(&self, text: &str) -> Option<Name> {
+        self.names.get(text).copied()
+    }
+
     pub fn below(&mut self, kind: &'static str, field: &'static str, limit: u32, n: u32) -> u32 {
         if n >= limit && self.bad.is_none() {
             self.bad = Some((kind, field));

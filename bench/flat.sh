@@ -15,10 +15,9 @@ source "$(dirname "${BASH_SOURCE[0]}")/common.sh"
 
 rustc --edition 2024 -O -A dead_code -o flat "$here/flat.rs"
 "$here/../tools/message.py" encode "$here/../examples/schema/device.capnp" <"$here/flat_device.json" >device
-alone() { # COMMAND..: the median and the least time of flattening alone
-    for ((i = 0; i < runs; i++)); do
-        "$@" device netlist 2>&1 >/dev/null
-    done | awk '{ print $3 }' | sort -n | awk '{ t[NR] = $1 } END { print "    flattening alone: " t[int((NR + 1) / 2)] " us, " t[1] " us" }'
+told() { # COMMAND..: the time of flattening alone
+    read -r middle least < <(alone "$@" device netlist)
+    echo "    flattening alone: $middle us, $least us"
 }
 
 for made in "levels 16" "blocks 1000"; do
@@ -29,7 +28,7 @@ for made in "levels 16" "blocks 1000"; do
         { echo "flat: they tell $size otherwise"; exit 1; }
     head_row
     measure 'flatten' "$flattener" count device netlist 2>/dev/null
-    alone "$flattener" count
+    told "$flattener" count
     measure 'plain Rust' ./flat device netlist 2>/dev/null
-    alone ./flat
+    told ./flat
 done

@@ -10,6 +10,7 @@ ghost use Rattle.ix_message.specs.Phys.{segment};
 ghost use Rattle.ix_schema.specs.Said.{branches_said};
 ghost use Rattle.ix_phys_write.specs.Record.{segment_row, IsSegmentNamed};
 ghost use Rattle.ix_phys_write.specs.Trees.{trees_at};
+ghost use Rattle.ix_rec.specs.Forest.{IsPreorder};
 ghost use Rattle.ix_phys_read.specs.Open.{Puts};
 ghost use Rattle.ix_phys_read.specs.Sound.{AreSound};
 ghost use Rattle.ix_take.specs.Views.{table_of, Takes};
@@ -52,6 +53,7 @@ pub fn take_branches(l: List<'_>, ctx: &Context<'_>, walk: &mut Walk) -> Result<
         (walked counted_structs walk.old (branch_steps (only_table (length (table_of ctx.now)))
         "RouteBranch" segment (branches_said segment (elements_of l.entry) endless))) }
     ensures named { IfOk result (All (IsSegmentNamed ctx.now.names.now)) }
+    ensures preorder { IfOk result IsPreorder }
 {
     let mut found = Forest::new(ctx.alloc);
     let mut stack = Vec::new(ctx.alloc);

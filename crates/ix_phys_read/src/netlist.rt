@@ -1,6 +1,7 @@
 //! The whole netlist.
 
 ghost use Rattle.std.specs.Prelude.{◌≡◌, ◌<◌, [], length, Some, slice_get, IfOk};
+ghost use Rattle.std.specs.List.{All};
 ghost use Rattle.ix_frame.specs.Sound.{sound_text};
 ghost use Rattle.ix_frame.specs.Views.{object_of};
 ghost use Rattle.ix_message.specs.Indexes.{only_table, steps};
@@ -8,6 +9,7 @@ ghost use Rattle.ix_message.specs.Names.{record_of};
 ghost use Rattle.ix_message.specs.Phys.{phys_netlist};
 ghost use Rattle.ix_schema.specs.Said.{said};
 ghost use Rattle.ix_phys_write.specs.Record.{phys_record, IsPhysNamed};
+ghost use Rattle.ix_phys_read.specs.Forests.{HasForests};
 ghost use Rattle.ix_phys_read.specs.Sound.{IsPassed};
 ghost use Rattle.ix_take.specs.Views.{table_of, Takes};
 ghost use Rattle.ix_take.specs.Walked.{walked};
@@ -38,6 +40,7 @@ pub fn take_netlist(
         (steps phys_netlist (only_table (length (table_of ctx.now.texts))) []
         (said phys_netlist (object_of root.entry)))) }
     ensures named { IfOk result (IsPhysNamed ctx.now.texts.names.now) }
+    ensures preorder { IfOk result (λ phys. All HasForests phys.nets) }
 {
     walk.begin(NETLIST);
     let placements = take_list(ctx.texts.alloc, root.sound_list(2), ctx, walk)?;

@@ -23,7 +23,8 @@ fn type_of(n: u16) -> NetType
 
 impl<'n> Take<PhysContext<'n>> for PhysNet {
     ghost use Rattle.ix_message.specs.Phys.{phys_net};
-    ghost use Rattle.ix_phys_write.specs.Record.{net_record, IsNetNamed};
+    ghost use Rattle.ix_phys_write.specs.Record.{net_record};
+    ghost use Rattle.ix_phys_read.specs.Forests.{IsNetTaken};
     ghost use Rattle.ix_phys_read.specs.Sound.{IsSound};
     ghost use Rattle.ix_phys_read.specs.Views.{made_in, asks_in};
     ghost use Rattle.ix_phys_read.specs.Walked.{counted_structs};
@@ -34,7 +35,7 @@ impl<'n> Take<PhysContext<'n>> for PhysNet {
 
     ghost record_by = { λ c. net_record c.texts.names.now };
 
-    ghost named = { λ c. IsNetNamed c.texts.names.now };
+    ghost named = { λ c. IsNetTaken c.texts.names.now };
 
     ghost sound = { λ c. IsSound phys_net };
 

@@ -5,6 +5,7 @@ ghost use Rattle.std.specs.Prelude.{IfOk};
 ghost use Rattle.std.specs.List.{All};
 ghost use Rattle.ix_device_read.specs.Adding.{texts_in, AddsExactly};
 ghost use Rattle.ix_device_read.specs.Reading.{reading_in_segments, record_unless_bad, IsReading};
+ghost use Rattle.ix_frame.specs.Objects.{whole_budget};
 ghost use Rattle.ix_frame.specs.Sound.{sound_text};
 ghost use Rattle.ix_frame.specs.Views.{object_of, segments_of};
 ghost use Rattle.ix_message.specs.Message.{numbers_in_segments};
@@ -14,6 +15,7 @@ ghost use Rattle.ix_schema.specs.Said.{said};
 ghost use Rattle.ix_schema.specs.Splitting.{PassesMessage};
 ghost use Rattle.ix_strings.specs.Names.{KeepsNumbers};
 ghost use Rattle.ix_phys_write.specs.Record.{phys_record, IsPhysNamed};
+ghost use Rattle.ix_phys_read.specs.Forests.{HasForests};
 ghost use Rattle.ix_phys_read.specs.Sound.{IsPassed};
 ghost use Rattle.ix_take.specs.Views.{kind_word, field_word};
 ghost use Rattle.ix_phys_read.specs.Views.{TellsField};
@@ -39,6 +41,7 @@ fn pass_netlist<'a>(alloc: Global, frame: &Frame<'a>) -> Result<Obj<'a>, ReadFau
     ensures message { PassesMessage phys_netlist result
         (numbers_in_segments phys_netlist (segments_of frame.now)) }
     ensures passed { IfOk result (λ root. IsPassed (object_of root)) }
+    ensures cost { whole_budget (segments_of frame.now) ≤ 2 ^ 28 + 64 }
 {
     // A reading is this pass, and what the structs say where it finds no fault.
     readings_split();
@@ -120,6 +123,7 @@ fn take_named(
         (record_unless_bad (map (name_text names.now) strings.now) phys_netlist
         (said phys_netlist (object_of root.entry))) }
     ensures named { IfOk result (IsPhysNamed names.now) }
+    ensures preorder { IfOk result (λ phys. All HasForests phys.nets) }
 {
     let ctx = PhysContext {
         texts: Context {
@@ -146,12 +150,15 @@ fn take_named(
 /// name; none where the frame breaks a rule. At most 2^28 + 65 names are added, also where memory
 /// is wanting, and each name keeps its number.
 ///
-/// The third name of a site pin isn't looked at; its second one stands there in the record.
+/// The trees of the record's nets are in preorder. The third name of a site pin isn't looked at;
+/// its second one stands there in the record. A reading costs at most 2^28 + 64 words.
 pub fn read_phys(alloc: Global, frame: &Frame<'_>, names: &mut Names) -> Result<Phys, ReadFault>
     requires { length names.old + 2 ^ 28 + 66 < 2 ^ 32 - 1 }
     ensures reading { IsReading (phys_record names.new) result
         (reading_in_segments phys_netlist (segments_of frame.now)) }
     ensures named { IfOk result (IsPhysNamed names.new) }
+    ensures preorder { IfOk result (λ phys. All HasForests phys.nets) }
+    ensures cost { whole_budget (segments_of frame.now) ≤ 2 ^ 28 + 64 }
     ensures keeps { KeepsNumbers names.old names.new }
     ensures most { length names.new ≤ length names.old + 2 ^ 28 + 65 }
     ensures adds { AddsExactly result (texts_in phys_netlist

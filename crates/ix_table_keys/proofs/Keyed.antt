@@ -64,7 +64,7 @@ module _ (names : List Text) (phys : Phys) (differ : AllDiffer names) (site : Na
         (text ++ codes "/" ++ decimal element, refl)).once
 
     -- a table's property is this one
-    is_this : (bits : ElementBits) (has : HasTable names phys site element bits)
+    pub is_this : (bits : ElementBits) (has : HasTable names phys site element bits)
         → has.property ≡ property
     is_this bits has =
         let there = stands_at phys.properties has.property has.stands in
@@ -99,3 +99,15 @@ module _ (names : List Text) (phys : Phys) (differ : AllDiffer names) (site : Na
           (sym has.value_is ∙ ap (option_and_then table_bits)
           (ap (λ p. slice_get names p.value) (is_this other has) ∙ value_is) ∙ sym told_is);
     }
+
+-- an element has one table at most
+pub one_table : (names : List Text) (phys : Phys) → AllDiffer names → IsNamedThere names phys
+    → (site : NameNumber) (element : ElementNumber) (one other : ElementBits)
+    → HasTable names phys site element one → HasTable names phys site element other → one ≡ other
+one_table names phys differ named site element one other has its =
+    let there = stands_at phys.properties has.property has.stands in
+    let same : its.property ≡ has.property
+    = is_this names phys differ site element has.site_text (table_key has.site_text element)
+    has.site_is refl has.property.key has.key_is named there.0 has.property there.1 refl other its in
+    same_Some one other (sym has.value_is
+    ∙ ap (λ p. option_and_then table_bits (slice_get names p.value)) (sym same) ∙ its.value_is)

@@ -1,4 +1,4 @@
-use Rattle.std.proofs.Common.{◌≡◌, ◌<◌, ◌≤◌, ◌+◌, ◌++◌, ◌∷◌, ◌∙◌, [], List, length, refl, sym}
+use Rattle.std.proofs.Common.{◌≡◌, ◌<◌, ◌≤◌, ◌+◌, ◌∷◌, ◌∙◌, [], List, length, refl, sym}
 use Rattle.std.proofs.Common.{subst, arith, rules, ◌^◌}
 use Rattle.ix_phys_read.specs.Open.{Puts}
 use Rattle.std.proofs.lemmas.List.{length-append}
@@ -39,6 +39,7 @@ loop-top-init c =
       taken = rw c.new-found.ensures (put_kept names table (only_table (length table)) whole
           c.args.walk.now [] c.put.new.stack.items first [] c.args.walk.now put all);
       named = rw c.new-found.ensures (All-nil (IsSegmentNamed names));
+      preorder = rw c.new-found.ensures tt;
     }
 
 pub returns-in_err-segment-clause-made : goal.returns-in_err-segment-clause-made
@@ -129,6 +130,7 @@ loop-top-preserved-in-Continue-branch-5 c =
           c.in_ok-put-3.ensures made.0 made.1 c.loop-top.invariant.taken);
       named = rw c.in_ok-push.ensures.ok (All-push (IsSegmentNamed names) c.loop-top.found _
           c.loop-top.invariant.named (c.in_ok-segment.ensures.named x.depth));
+      preorder = c.in_ok-push.ensures.preorder;
     }
 
 pub loop-top-preserved : goal.loop-top-preserved
@@ -140,6 +142,7 @@ loop-top-preserved c =
           c.loop-top.stack.items c.pop.new.self.items c.in-Some.top c.loop-top.found c.loop-top.walk
           c.in-Some.ensures.items (omega arith) c.loop-top.invariant.taken;
       named = c.loop-top.invariant.named;
+      preorder = c.loop-top.invariant.preorder;
     }
 
 pub returns-clause-made : goal.returns-clause-made

@@ -169,7 +169,10 @@ returns-clause-named c = record {
   part = slice_get_within c.args.ctx.now.texts.names.now c.args.part
       (sound_text (object_of c.args.root) 0) c.requires.part;
   placements = c.in_ok-placements.ensures.named;
-  nets = c.in_ok-nets.ensures.named;
+  nets = λ k d lt. (c.in_ok-nets.ensures.named k d lt).named;
   site_insts = c.in_ok-site_insts.ensures.named;
   properties = c.in_ok-properties.ensures.named;
 }
+
+pub returns-clause-preorder : goal.returns-clause-preorder
+returns-clause-preorder c = λ k d lt. (c.in_ok-nets.ensures.named k d lt).forests

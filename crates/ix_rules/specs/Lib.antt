@@ -1,0 +1,2 @@
+-- For private contracts and proofs.
+pub mod Stages

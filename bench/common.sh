@@ -26,3 +26,8 @@ alone() { # COMMAND..: the median and the least of `runs` times that a command t
         "$@" 2>&1 >/dev/null
     done | awk '{ print $3 }' | sort -n | awk '{ t[NR] = $1 } END { print t[int((NR + 1) / 2)], t[1] }'
 }
+
+instructions() { # COMMAND..: how many instructions a command takes
+    valgrind --tool=cachegrind --cache-sim=no --cachegrind-out-file=/dev/null "$@" 2>&1 >line |
+        awk '/I +refs/ { gsub(",", "", $NF); print $NF }'
+}

@@ -49,11 +49,6 @@ measure() { # NAME WORDS BEFORE COMMAND..: the times behind WORDS; with the word
     row "$name" "$middle" "$least" "$busy" "$(peak "$@" device)" "$(peak "$@" device "$before")"
 }
 
-instructions() { # COMMAND..: how many instructions a command takes
-    valgrind --tool=cachegrind --cache-sim=no --cachegrind-out-file=/dev/null "$@" 2>&1 >line |
-        awk '/I +refs/ { gsub(",", "", $NF); print $NF }'
-}
-
 count() { # NAME BEFORE COMMAND..: the instructions that a command takes more than where it ends before
     name=$1 before=$2
     shift 2

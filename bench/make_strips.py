@@ -11,6 +11,7 @@ SHAPE is one of these; the fabrics of other devices hold far fewer segments.
 - `chain`: one net, each segment the only one below the one before, over tiles of 1,000 wires.
 - `row`: one net, all segments but the first two side by side, from a node that all tiles share.
 - `single`: nets of one segment, 1,000 at each cell.
+- `sparse`: nets of one segment, each at a cell of its own, whose BEL has 1,000 pins.
 """
 import struct
 import sys
@@ -138,7 +139,8 @@ def single_device(tiles):
     pins = [f"P{i}" for i in range(OF_CELL)]
     of_type = site_type("MANY", [("D", LOGIC, [], pins)], {}, [f"D.{it}" for it in pins])
     tile_type = {"name": "CELL", "siteTypes": [{}]}
-    return device(of_type, tile_type, [[f"S{t}"] for t in range(tiles)], [cell("DRV", "MANY", "D", [f"{it}={it}" for it in pins])])
+    cells = [cell("DRV", "MANY", "D", [f"{it}={it}" for it in pins])]
+    return device(of_type, tile_type, [[f"S{t}"] for t in range(tiles)], cells)
 
 
 # Netlists.
@@ -238,9 +240,9 @@ def line_netlist(segments, is_chain):
     return netlist, netlist.file([("d", "DRV", "S0", "D", [("O", "O")])], ["S0"], "SOURCE", [])
 
 
-def single_netlist(tiles):
-    netlist = Netlist([], OF_CELL * tiles)
-    pins = [f"P{i}" for i in range(OF_CELL)]
+def single_netlist(tiles, nets_of_cell):
+    netlist = Netlist([], nets_of_cell * tiles)
+    pins = [f"P{i}" for i in range(nets_of_cell)]
     for t in range(tiles):
         for it in pins:
             netlist.branches(netlist.net(f"n{t}_{it}"), (BEL_PIN, f"S{t}", "D", it))
@@ -250,12 +252,12 @@ def single_netlist(tiles):
 
 def main():
     shape, segments, *paths = sys.argv[1], int(sys.argv[2]), *sys.argv[3:]
-    of_tile = {"strips": OF_STRIP * OF_TILE, "chain": OF_LINE, "row": OF_LINE, "single": OF_CELL}[shape]
+    of_tile = {"strips": OF_STRIP * OF_TILE, "chain": OF_LINE, "row": OF_LINE, "single": OF_CELL, "sparse": 1}[shape]
     tiles = -(-segments // of_tile)
     if shape == "strips":
         made, (netlist, file) = strips_device(tiles), strips_netlist(tiles)
-    elif shape == "single":
-        made, (netlist, file) = single_device(tiles), single_netlist(tiles)
+    elif shape in ("single", "sparse"):
+        made, (netlist, file) = single_device(tiles), single_netlist(tiles, of_tile)
     else:
         made, (netlist, file) = lines_device(tiles), line_netlist(segments, shape == "chain")
     first = message.encode(SCHEMA, made)

@@ -16,12 +16,14 @@
 mod answer;
 mod reading;
 mod timed;
+mod words;
 
 use crate::answer::answer_to;
-use crate::timed::time_rules;
-use anyhow::{Context, Result, bail};
+use crate::timed::time_files;
+use crate::words::{Words, words_of};
+use anyhow::{Result, bail};
 use ix_cases::{field, is_case};
-use std::{env, fs};
+use std::fs;
 
 /// Tries each case of a file.
 fn try_cases(rt: &HostRuntime, cases: &str) -> Result<()> {
@@ -36,23 +38,22 @@ fn try_cases(rt: &HostRuntime, cases: &str) -> Result<()> {
     Ok(())
 }
 
+// The cases of the file of this name.
+fn try_file(rt: &HostRuntime, file: &str) -> Result<()> {
+    let cases = fs::read_to_string(rt, file)?;
+    try_cases(rt, &cases)
+}
+
+// What the words ask for.
+fn run(rt: &HostRuntime, words: &Words) -> Result<()> {
+    match words.command.as_str() {
+        "cases" => try_file(rt, &words.file),
+        "time" => time_files(rt, words),
+        _ => bail!("an unknown command"),
+    }
+}
+
 fn main(rt: HostRuntime) -> Result<()> {
-    let mut words = env::args(&rt)?;
-    let _program = words.next();
-    let command = words.next().context("no command")?;
-    let path = words.next().context("no file")?;
-    if command.as_str() == "cases" {
-        return try_cases(&rt, &fs::read_to_string(&rt, &path)?);
-    }
-    if command.as_str() != "time" {
-        bail!("an unknown command");
-    }
-    let netlist = words.next().context("no netlist")?;
-    let level = words.next().context("no level")?;
-    time_rules(
-        &rt,
-        &fs::read(&rt, &path)?,
-        &fs::read(&rt, &netlist)?,
-        level.as_str(),
-    )
+    let words = words_of(&rt)?;
+    run(&rt, &words)
 }

@@ -1,12 +1,12 @@
 -- What placements force in elements, one after another.
-use Rattle.std.proofs.Common.{◌≡◌, ◌≢◌, ◌⊎◌, ◌<◌, ◌+◌, ◌∙◌, ◌↔◌, refl, ap, sym, subst, ℕ, arith}
-use Rattle.std.proofs.Common.{inl, inr, List, length, slice_get, Option, Some, None, option_map}
+use Rattle.std.proofs.Common.{◌≡◌, ◌≢◌, ◌⊎◌, ◌+◌, ◌∙◌, ◌↔◌, ap, sym, subst, ℕ, arith}
+use Rattle.std.proofs.Common.{inl, inr, slice_get, Option, Some, None, option_map}
 use Rattle.std.proofs.Common.{option_and_then, max}
 use Rattle.std.specs.Int.{bit_at}
 use Rattle.std.specs.FinMap.{FinMap, get, empty, get-empty}
 use Rattle.std.proofs.lemmas.Bool.{cases_lt, cases_eq}
 use Rattle.std.proofs.lemmas.Nat.Bits.{bit_at-lt, bit_at-zero}
-use Rattle.std.proofs.lemmas.Option.{none-some, same_Some}
+use Rattle.std.proofs.lemmas.Option.{same_Some}
 use Rattle.ix_rec.specs.Maps.{pin_order}
 use Rattle.ix_rec.specs.declared.device.DeviceRec.{DeviceRec}
 use Rattle.ix_rec.specs.declared.device.SiteType.{SiteType}
@@ -108,6 +108,7 @@ module _ (rec : DeviceRec) (phys : Phys) (flat : Flat) (k : ℕ) (placement : Ce
 
   forced_later : (i element at bit : ℕ) → IsForcedAmong rec phys flat k i element at bit
       → IsForcedAmong rec phys flat (k + 1) i element at bit
+  unfolding later
   forced_later i element at bit is = record {
     there = later i element is.there;
     forces = is.forces;
@@ -235,6 +236,7 @@ module _ (rec : DeviceRec) (phys : Phys) (flat : Flat) (k : ℕ) (placement : Ce
         → (bit_at before at ≡ 1) ↔ IsForcedAmong rec phys flat k i element at bit
         → (bit_at own_word at ≡ 1) ↔ IsForcedBy rec phys flat element placement at bit
         → (bit_at all at ≡ 1) ↔ IsForcedAmong rec phys flat (k + 1) i element at bit
+    unfolding has_it
     joined at bit before own_word all is first second = (
       λ one. elim (of_either (bit_at before at) (bit_at own_word at) (bit_at all at) is one) [
         | inl old ↦ forced_later i element at bit (first.0 old)

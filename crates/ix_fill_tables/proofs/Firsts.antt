@@ -2,12 +2,11 @@
 use Rattle.std.proofs.Common.{◌≡◌, ◌<◌, ◌∙◌, refl, ap, sym, ℕ, arith, inl, inr, List, length}
 use Rattle.std.proofs.Common.{slice_get, Option, Some, None, option_and_then, Bool, true, false}
 use Rattle.std.proofs.Common.{nat_eq, nat_lt, cond, is_some, if◌then◌else◌}
-use Rattle.std.specs.List.{position, position_or_len, list_any}
+use Rattle.std.specs.List.{position, position_or_len}
 use Rattle.std.specs.FinMap.{get}
 use Rattle.std.proofs.lemmas.Bool.{cases_lt, cases_eq, false≢true, true≢false, eqb-true, eq-eqb}
 use Rattle.std.proofs.lemmas.List.Sums.{fails_before_first}
 use Rattle.std.proofs.lemmas.Option.{none-some, same_Some, get_or_from_slice_get}
-use Rattle.ix_num.specs.Numbers.{NameNumber}
 use Rattle.ix_rec.specs.declared.device.LutCell.{LutCell}
 use Rattle.ix_rec.specs.declared.flow.Flat.{Flat}
 use Rattle.ix_rec.specs.declared.flow.FlatCell.{FlatCell}
@@ -16,7 +15,7 @@ use Rattle.ix_rec.specs.declared.phys.CellPlacement.{CellPlacement}
 use Rattle.ix_device.proofs.OptionLemmas.{position-at, list_any-position}
 use Rattle.ix_device.proofs.Walks.{any_at}
 use Rattle.ix_ends.proofs.Items.{chained}
-use Rattle.ix_fill_tables.specs.Completed.{IsNamed, IsTold}
+use Rattle.ix_fill_tables.specs.Completed.{IsTold}
 use Rattle.ix_fill_tables.specs.Told.{name_of, of_inputs, told_table}
 
 module _ {A : Type 0} (p : A → Bool) (xs : List A) where

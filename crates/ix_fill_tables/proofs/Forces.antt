@@ -1,5 +1,5 @@
 -- What a placed LUT forces.
-use Rattle.std.proofs.Common.{◌≡◌, ◌∙◌, ◌↔◌, ap, sym, subst, ℕ, List, length, slice_get, Option}
+use Rattle.std.proofs.Common.{◌≡◌, ◌∙◌, ap, sym, subst, ℕ, List, length, Option}
 use Rattle.std.proofs.Common.{Some, None, arith}
 use Rattle.std.specs.Int.{bit_at}
 use Rattle.std.proofs.lemmas.Nat.Bits.{bit_at-zero}
@@ -11,7 +11,7 @@ use Rattle.ix_rec.specs.declared.flow.Flat.{Flat}
 use Rattle.ix_rec.specs.declared.flow.TruthTable.{TruthTable}
 use Rattle.ix_rec.specs.declared.phys.CellPlacement.{CellPlacement}
 use Rattle.ix_rec.specs.declared.phys.Phys.{Phys}
-use Rattle.ix_lut.specs.Places.{LutPlace, Held, Forces}
+use Rattle.ix_lut.specs.Places.{LutPlace, Forces}
 use Rattle.ix_lut.specs.Shapes.{bel_at, held_by, input_lines, lut_on}
 use Rattle.ix_lut.specs.Tables.{spelled}
 use Rattle.ix_lut.specs.declared.shape.ElementShape.{ElementShape}

@@ -4,3 +4,7 @@ pub mod Wires
 pub mod Unused
 pub mod Forces
 pub mod Among
+pub mod Digits
+pub mod Adding
+pub mod Completing
+pub mod Wholly

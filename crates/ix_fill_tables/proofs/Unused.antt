@@ -1,6 +1,6 @@
 -- What holds the lines of the inputs that a placed LUT doesn't use.
-use Rattle.std.proofs.Common.{◌≡◌, ◌≢◌, ◌<◌, ◌≤◌, ◌+◌, ◌∙◌, ap, sym, subst, ℕ, List}
-use Rattle.std.proofs.Common.{length, set, slice_get, slice_index, Some, arith, inl, inr, Contains}
+use Rattle.std.proofs.Common.{◌≡◌, ◌≢◌, ◌<◌, ◌+◌, ◌∙◌, ap, sym, subst, ℕ, List}
+use Rattle.std.proofs.Common.{length, set, slice_get, Some, arith, inl, inr, Contains}
 use Rattle.std.proofs.Common.{IfSome, Option, None}
 use Rattle.std.proofs.lemmas.Bool.{cases_lt}
 use Rattle.std.proofs.lemmas.List.{get_or-set_same, get_or-set_other}

@@ -1,20 +1,19 @@
 -- The bits that a LUT forces, value by value.
-use Rattle.std.proofs.Common.{◌≡◌, ◌≢◌, ◌⊎◌, ◌<◌, ◌≤◌, ◌+◌, ◌^◌, ◌∙◌, refl, ap, sym, subst, ℕ, arith}
-use Rattle.std.proofs.Common.{inl, inr, List, [], ◌∷◌, length, take, Contains, slice_index, Bool}
-use Rattle.std.proofs.Common.{true, false, nat_eq, ◌||◌, ◌↔◌}
+use Rattle.std.proofs.Common.{◌≡◌, ◌≢◌, ◌<◌, ◌≤◌, ◌+◌, ◌^◌, ◌∙◌, refl, ap, sym, subst, ℕ, arith}
+use Rattle.std.proofs.Common.{inl, inr, List, length, take, Contains, slice_index, Bool}
+use Rattle.std.proofs.Common.{true, false, nat_eq, ◌||◌}
 use Rattle.std.specs.Bool.{Decides}
 use Rattle.std.specs.List.{list_any}
 use Rattle.std.specs.Int.{bit_at}
-use Rattle.std.proofs.lemmas.Bool.{cases_lt, cases_eq, false≢true, true≢false, eqb-true, eq-eqb}
+use Rattle.std.proofs.lemmas.Bool.{cases_lt, cases_eq, true≢false, eqb-true, eq-eqb}
 use Rattle.std.proofs.lemmas.List.{get_or-take, length-take}
 use Rattle.std.proofs.lemmas.Map.Views.{Contains-from_any}
 use Rattle.std.proofs.lemmas.Nat.Bits.{bit_at-zero}
 use Rattle.ix_device.proofs.Walks.{any_at}
-use Rattle.ix_lut.specs.Places.{LutPlace, Held, Agrees, Allows, Forces}
-use Rattle.ix_lut.specs.Shapes.{lut_on, held_by, input_lines}
+use Rattle.ix_lut.specs.Places.{LutPlace, Held, Agrees, Allows}
+use Rattle.ix_lut.specs.Shapes.{lut_on}
 use Rattle.ix_lut.specs.Tables.{spelled}
 use Rattle.ix_lut.specs.declared.shape.BelShape.{BelShape}
-use Rattle.ix_lut.specs.declared.shape.Tie.{Tie}
 use Rattle.ix_table_keys.proofs.Found.{stands_at}
 use Rattle.ix_fill_tables.specs.Bits.{AgreesAt, HasForced, AreForcedBelow, AreForcedBits}
 use Rattle.ix_fill_tables.specs.declared.forcing.ForcedBits.{ForcedBits}
@@ -114,8 +113,14 @@ module _ (on : LutPlace) (table : ℕ) (held : Held) where
   pub all_values : (most : ℕ) (forced : ForcedBits) → ((v : ℕ) → Agrees on held v → v < most)
       → AreForcedBelow on table held most forced → AreForcedBits on table held forced
   all_values most forced within are = record {
-    ones = λ at. (are.ones.only at, λ f. sym (ap (bit_at forced.ones) f.read)
-        ∙ are.ones.every f.v (within f.v f.agrees) f.agrees f.value);
-    zeros = λ at. (are.zeros.only at, λ f. sym (ap (bit_at forced.zeros) f.read)
-        ∙ are.zeros.every f.v (within f.v f.agrees) f.agrees f.value);
+    ones = λ at. (
+      are.ones.only at,
+      λ f. sym (ap (bit_at forced.ones) f.read)
+          ∙ are.ones.every f.v (within f.v f.agrees) f.agrees f.value,
+    );
+    zeros = λ at. (
+      are.zeros.only at,
+      λ f. sym (ap (bit_at forced.zeros) f.read)
+          ∙ are.zeros.every f.v (within f.v f.agrees) f.agrees f.value,
+    );
   }

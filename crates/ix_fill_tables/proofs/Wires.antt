@@ -1,7 +1,8 @@
 -- The wires that constants hold, step by step.
-use Rattle.std.proofs.Common.{◌≡◌, ◌≢◌, ◌⊎◌, ◌<◌, ◌+◌, ◌∙◌, refl, ap, sym, subst, ℕ, arith, inl, inr}
+use Rattle.std.proofs.Common.{◌≡◌, ◌≢◌, ◌⊎◌, ◌+◌, ◌∙◌, refl, ap, sym, subst, ℕ, arith, inl, inr}
 use Rattle.std.proofs.Common.{List, length, slice_get, Option, Some, None, option_map}
-use Rattle.std.proofs.Common.{Result, Ok, Err, OnOk, option_and_then, Bool, true, false, true≢false, ◌↔◌}
+use Rattle.std.proofs.Common.{Result, Ok, Err, OnOk, option_and_then, Bool, true, false, ◌↔◌}
+use Rattle.std.proofs.Common.{true≢false}
 use Rattle.std.proofs.lemmas.Bool.{cases_lt, cases_eq, false≢true}
 use Rattle.std.proofs.lemmas.Option.{none-some, same_Some, slice_get_within}
 use Rattle.std.specs.FinMap.{get, empty, get-empty}
@@ -21,14 +22,13 @@ use Rattle.ix_rec.specs.declared.phys.Segment.{Segment}
 use Rattle.ix_graph.specs.Ends.{ends}
 use Rattle.ix_lut.specs.declared.shape.Tie.{Tie}
 use Rattle.ix_lut.specs.declared.shape.Tie.TheVariants as ties
-use Rattle.ix_legal.specs.Segments.{segments, segment_at, in_end_of, in_end, out_end, IsEnd}
-use Rattle.ix_legal.specs.Holders.{HasEnd, Holds, HoldsByWiring, as_holder, constant_of_net}
+use Rattle.ix_legal.specs.Segments.{segments, segment_at, in_end_of, IsEnd}
+use Rattle.ix_legal.specs.Holders.{Holds, as_holder, constant_of_net}
 use Rattle.ix_legal.specs.Holders.{net_of_constant}
-use Rattle.ix_legal.specs.LutTables.{IsHeld}
 use Rattle.ix_ends.proofs.Items.{mapped, chained, from_both, into_first, into_second}
 use Rattle.ix_fill_tables.specs.declared.constants.Holding.{Holding}
 use Rattle.ix_fill_tables.specs.declared.constants.Holding.TheVariants as holdings
-use Rattle.ix_fill_tables.specs.Holdings.{Holdings, held_besides, is_of, HasWire, Adds, IsOne}
+use Rattle.ix_fill_tables.specs.Holdings.{Holdings, held_besides, is_of, Adds, IsOne}
 use Rattle.ix_fill_tables.specs.Holdings.{IsEither, IsAmong, IsOfNet, IsOfNets, AreHoldings}
 use Rattle.ix_fill_tables.specs.Holdings.{tie_of, TellsTie}
 
@@ -229,20 +229,27 @@ module _ (rec : DeviceRec) (net : PhysNet) (one : Constant) (c : Constant) (s w 
       → (o : Option (Res × Res)) → ends rec branch.item ≡ o → IsEither one o c s w
       → (c ≡ one) × IsEnd rec net k (Wire s w)
   as_end k branch at None is h = absurd h
-  as_end k branch at (Some both) is (inl h) = (h.0, inl (ap (λ o. option_and_then (in_end_of rec)
-      (option_map (λ (b : Branch Segment). b.item) o)) at
-      ∙ ap (option_map (λ (e : Res × Res). e.0)) is ∙ ap Some h.1))
-  as_end k branch at (Some both) is (inr h) = (h.0, inr (ap (λ o. option_map
-      (λ (e : Res × Res). e.1) (option_and_then (ends rec)
-      (option_map (λ (b : Branch Segment). b.item) o))) at
-      ∙ ap (option_map (λ (e : Res × Res). e.1)) is ∙ ap Some h.1))
+  as_end k branch at (Some both) is (inl h) = (
+    h.0,
+    inl (ap (λ o. option_and_then (in_end_of rec)
+        (option_map (λ (b : Branch Segment). b.item) o)) at
+        ∙ ap (option_map (λ (e : Res × Res). e.0)) is ∙ ap Some h.1),
+  )
+  as_end k branch at (Some both) is (inr h) = (
+    h.0,
+    inr (ap (λ o. option_map
+        (λ (e : Res × Res). e.1) (option_and_then (ends rec)
+        (option_map (λ (b : Branch Segment). b.item) o))) at
+        ∙ ap (option_map (λ (e : Res × Res). e.1)) is ∙ ap Some h.1),
+  )
 
   of_segment : (k : ℕ) (segment : Segment) (both : Res × Res) → segment_at net k ≡ Some segment
       → ends rec segment ≡ Some both → IsOne one both.0 c s w ⊎ IsOne one both.1 c s w
       → (branch : Branch Segment) × (slice_get (segments net) k ≡ Some branch)
       × IsEither one (ends rec branch.item) c s w
   of_segment k segment both at is h =
-      let branch = mapped (λ (b : Branch Segment). b.item) (slice_get (segments net) k) segment at in (
+      let branch = mapped (λ (b : Branch Segment). b.item) (slice_get (segments net) k) segment
+      at in (
         branch.0,
         branch.1,
         subst (λ o. IsEither one o c s w) (sym (ap (ends rec) branch.2 ∙ is)) h,

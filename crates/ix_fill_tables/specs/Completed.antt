@@ -1,6 +1,6 @@
 -- A netlist without tables, completed: each LUT element gets the table that its LUTs force, by the
 -- tables that a flat design tells of them.
-use Rattle.std.specs.Prelude.{◌≡◌, ◌≢◌, ◌⊎◌, ◌↔◌, ◌<◌, ℕ, List, [], ◌∷◌, ◌++◌, length, slice_get}
+use Rattle.std.specs.Prelude.{◌≡◌, ◌≢◌, ◌⊎◌, ◌↔◌, ◌<◌, ℕ, List, ◌++◌, length, slice_get}
 use Rattle.std.specs.Prelude.{Contains, Some, option_and_then}
 use Rattle.std.specs.FinMap.{get}
 use Rattle.std.specs.Int.{bit_at}

@@ -1,10 +1,9 @@
 -- The properties that tell the tables of elements.
-use Rattle.std.specs.Prelude.{◌≡◌, ◌<◌, ℕ, List, [], ◌∷◌, ◌++◌, length, slice_get, Some}
+use Rattle.std.specs.Prelude.{◌≡◌, ◌<◌, ◌⊎◌, ℕ, true, false, List, [], ◌∷◌, ◌++◌, length}
+use Rattle.std.specs.Prelude.{slice_get, Some}
 use Rattle.std.specs.Prelude.{option_and_then, if◌then◌else◌}
-use Rattle.std.specs.FinMap.{FinMap, entries}
 use Rattle.ix_message.specs.Shape.{Text}
 use Rattle.ix_num.specs.Numbers.{NameNumber}
-use Rattle.ix_rec.specs.Maps.{pin_order}
 use Rattle.ix_rec.specs.declared.phys.Property.{Property}
 use Rattle.ix_rec.specs.declared.phys.SiteInstance.{SiteInstance}
 use Rattle.ix_lut.specs.Places.{ElementBits}
@@ -47,9 +46,31 @@ pub record AreAdded (names : List Text) (instances : List SiteInstance) (before 
   pub each : (k : ℕ) (f : Filling) (property : Property) → slice_get fillings k ≡ Some f
       → slice_get added k ≡ Some property → TellsIt names instances f property
 
--- the entries are of instances whose sites have names
-abbrev pub HaveSites : List Text → List SiteInstance → FinMap pin_order ForcedBits → Type 0
-HaveSites names instances forced = (k i : ℕ) (element : ElementNumber) (bits : ForcedBits)
-    → slice_get (entries forced) k ≡ Some ((i, element), bits)
-    → (instance : SiteInstance) × (slice_get instances i ≡ Some instance)
-    × (instance.site < length names)
+-- a table is added: that of an element, where no bit is forced both ways
+pub record IsAdded (names : List Text) (instances : List SiteInstance) (f : Filling)
+    (before after : List Property) : Type 0 where
+  pub property : Property
+  pub behind : after ≡ before ++ property ∷ []
+  pub tells : TellsIt names instances f property
+
+abbrev pub AddsTable : List Text → List SiteInstance → (i : ℕ) → ElementNumber → ForcedBits
+    → (before after : List Property) → Type 0
+AddsTable names instances i element forced before after =
+    ((clashes forced ≡ true) × (after ≡ before))
+    ⊎ ((clashes forced ≡ false) × IsAdded names instances (record {
+      instance = i;
+      element = element;
+      bits = forced.ones;
+    }) before after)
+
+-- an instance whose site has a name
+pub record HasSite (names : List Text) (instances : List SiteInstance) (i : ℕ) : Type 0 where
+  pub instance : SiteInstance
+  pub instance_is : slice_get instances i ≡ Some instance
+  pub named : instance.site < length names
+
+-- the entries are of such instances
+abbrev pub HaveSites : List Text → List SiteInstance → List ((ℕ × ElementNumber) × ForcedBits)
+    → Type 0
+HaveSites names instances es = (k : ℕ) (e : (ℕ × ElementNumber) × ForcedBits)
+    → slice_get es k ≡ Some e → HasSite names instances e.0.0

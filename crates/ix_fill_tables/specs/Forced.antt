@@ -13,9 +13,9 @@ use Rattle.ix_rec.specs.declared.phys.CellPlacement.{CellPlacement}
 use Rattle.ix_rec.specs.declared.phys.Phys.{Phys}
 use Rattle.ix_device.specs.Elements.{element_of_bel}
 use Rattle.ix_device.specs.Lookups.{site_named, type_of_site, in_type, bel_in}
-use Rattle.ix_device.specs.Shapes.{ShapeSeen, shape_in}
+use Rattle.ix_device.specs.Shapes.{shape_in}
 use Rattle.ix_first.specs.declared.by_id.FirstById.{FirstById}
-use Rattle.ix_legal.specs.Sites.{ElementNumber, lut_cell_of, element_at, shape_at}
+use Rattle.ix_legal.specs.Sites.{ElementNumber, lut_cell_of, element_at}
 use Rattle.ix_lut_places.specs.Places.{ArePlaces}
 use Rattle.ix_lut_places.specs.declared.places.LutPlaces.{LutPlaces}
 use Rattle.ix_table_keys.specs.Places.{ArePlacesByName, site_of}

@@ -1,6 +1,6 @@
 -- Which constants hold the wires of sites.
 use Rattle.std.specs.Prelude.{◌≡◌, ◌⊎◌, ◌<◌, ◌↔◌, ℕ, List, slice_get, Bool, true, false}
-use Rattle.std.specs.Prelude.{Option, Some, None, option_map}
+use Rattle.std.specs.Prelude.{Option, Some, None}
 use Rattle.std.specs.FinMap.{FinMap, get}
 use Rattle.ix_num.specs.Numbers.{SiteNumber, SiteWireNumber}
 use Rattle.ix_num.specs.declared.resource.Constant.{Constant}

@@ -7,3 +7,4 @@ pub mod Bits
 pub mod Ties
 pub mod Forced
 pub mod Filled
+pub mod Whole

@@ -8,21 +8,32 @@ ghost use Rattle.std.specs.Prelude.{List};
 ghost use Rattle.ix_fill_tables.specs.Forced.{usable_element as usable_element_seen, IsReady};
 ghost use Rattle.ix_fill_tables.specs.Forced.{TellsElement, TellsForced, AreForcedBy, AreForced};
 ghost use Rattle.ix_fill_tables.specs.Forced.{bits_so_far};
+ghost use Rattle.ix_fill_tables.specs.Told.{AreTold, told_table};
 
 use crate::forcing::{ForcedBits, forced_bits};
 use crate::netlist::Netlist;
 use crate::pairs::PairMap;
 use crate::ties::ties_of;
 use ix_device::Device;
-use ix_num::Memory;
+use ix_num::{Memory, NameId};
 use ix_pin_maps::places_are_one;
 use ix_placed_luts::placed_lut;
-use ix_rec::CellPlacement;
+use ix_rec::{CellPlacement, TruthTable};
 use std::alloc::Global;
 
 /// What the LUTs of elements force, by the instance of the site and the element's number in its
 /// type.
 pub(crate) type Forced = PairMap<ForcedBits>;
+
+// The table of so many inputs that the design tells of the first cell of this name.
+fn told_to(on: &Netlist<'_>, name: NameId, inputs: u32) -> Option<TruthTable>
+    requires told { AreTold on.now.flat.now on.now.names on.now.told.now }
+    requires name { name < on.now.names }
+    ensures { result ≡ told_table on.now.flat.now name inputs }
+{
+    let names = on.names;
+    on.told.table(on.flat, names, name, inputs)
+}
 
 // The bits that a placement forces; none exactly where the cell is no LUT or isn't placed as one,
 // the design tells no table of it, or both constants hold a wire of an input that it doesn't use.
@@ -34,13 +45,11 @@ fn bits_of(on: &Netlist<'_>, placement: &CellPlacement) -> Option<ForcedBits>
 {
     places_are_one();
     let at = placed_lut(on.device, on.places, placement)?;
+    let bel = at.shape.bels[at.place as usize];
     let used = at.inputs.as_slice();
-    let table = on
-        .told
-        .table(on.flat, on.names, placement.cell_name, used.len() as u32)?;
-    let bel = &at.shape.bels[at.place as usize];
-    let ties = ties_of(on, at.site, at.ty, at.bel, at.lut_bel, bel, used)?;
-    Some(forced_bits(bel, used, &ties, table.bits))
+    let table = told_to(on, placement.cell_name, used.len() as u32)?;
+    let ties = ties_of(on, at.site, at.ty, at.bel, at.lut_bel, &bel, used)?;
+    Some(forced_bits(&bel, used, &ties, table.bits))
 }
 
 // The same, with no bits where it forces none.

@@ -151,12 +151,7 @@ fn with_value(
 
 /// The bits that a LUT forces that is placed on a BEL, its inputs at these places of the BEL's, and
 /// that has this table, where the BEL's lines are so held.
-pub(crate) fn forced_bits(
-    bel: &BelShape,
-    used: &[u32],
-    ties: &[Tie; 12],
-    table: u64,
-) -> ForcedBits
+pub(crate) fn forced_bits(bel: &BelShape, used: &[u32], ties: &[Tie; 12], table: u64) -> ForcedBits
     requires bel { IsUsableBel 12 bel.now }
     requires few { length used.now ≤ 6 }
     requires within { (i : ℕ) → i < length used.now → slice_index used.now i < 6 }

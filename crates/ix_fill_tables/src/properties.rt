@@ -1,7 +1,7 @@
 //! Tables as properties.
 
-ghost use Rattle.std.specs.Prelude.{◌≡◌, ◌<◌, ◌≤◌, ◌+◌, ◌*◌, ◌^◌, ◌++◌, ◌∷◌, [], ℕ, Some, length};
-ghost use Rattle.std.specs.Prelude.{slice_get, string_bytes, IfOk, OnOk};
+ghost use Rattle.std.specs.Prelude.{◌≡◌, ◌<◌, ◌≤◌, ◌+◌, ◌-◌, ◌*◌, ◌^◌, ◌++◌, ◌∷◌, [], Some, true};
+ghost use Rattle.std.specs.Prelude.{length, string_bytes, IfOk, OnOk};
 ghost use Rattle.std.specs.Bool.{Decides};
 ghost use Rattle.std.specs.Fmt.{digit_glyph};
 ghost use Rattle.std.specs.FinMap as map;
@@ -9,10 +9,11 @@ ghost use Rattle.ix_legal.specs.TableKeys.{IsTableKey, table_key, table_bits};
 ghost use Rattle.ix_phys_write.specs.Record.{IsPhysNamed};
 ghost use Rattle.ix_strings.specs.Names.{KeepsNumbers};
 ghost use Rattle.ix_fill_tables.specs.Completed.{HasTables};
-ghost use Rattle.ix_fill_tables.specs.Filled.{TellsTable, AreAdded, HaveSites, fillings_of};
+ghost use Rattle.ix_fill_tables.specs.Filled.{TellsTable, AddsTable, AreAdded, HasSite};
+ghost use Rattle.ix_fill_tables.specs.Filled.{HaveSites, fillings_of};
 
 use crate::forced::Forced;
-use crate::forcing::is_clash;
+use crate::forcing::{ForcedBits, is_clash};
 use ix_num::{Memory, NameId};
 use ix_rec::{Items, Phys, Property, SiteInstance};
 use ix_strings::Names;
@@ -90,6 +91,31 @@ fn table_property(
     Ok(Property { key, value })
 }
 
+// Adds the table of an element to the properties, where no bit is forced both ways.
+fn add_table(
+    instances: &Items<SiteInstance>,
+    properties: &mut Items<Property>,
+    names: &mut Names,
+    text: &mut String,
+    at: (u32, u32),
+    bits: ForcedBits,
+) -> Result<(), Memory>
+    requires site { HasSite names.old instances.now at.0 }
+    requires room { length names.old + 2 < 2 ^ 32 }
+    ensures added { OnOk result (AddsTable names.new instances.now at.0 at.1 bits properties.old
+        properties.new) }
+    ensures keeps { KeepsNumbers names.old names.new }
+    ensures most { length names.new ≤ length names.old + 2 }
+{
+    if is_clash(bits) {
+        return Ok(());
+    }
+    let site = instances.at(at.0 as usize).site;
+    let property = table_property(names, text, site, at.1, bits.ones)?;
+    properties.push(property)?;
+    Ok(())
+}
+
 /// Adds the tables of elements to the properties, but for those of which a bit is forced both ways.
 /// `Memory` is the only error.
 pub(crate) fn add_tables(
@@ -99,20 +125,16 @@ pub(crate) fn add_tables(
     names: &mut Names,
     forced: &Forced,
 ) -> Result<(), Memory>
-    requires sites { HaveSites names.old instances.now forced.now }
-    requires room { length names.old + 2 * map.len forced.now < 2 ^ 32 - 1 }
+    requires sites { HaveSites names.old instances.now (map.entries forced.now) }
+    requires room { length names.old + 2 * length (map.entries forced.now) < 2 ^ 32 - 1 }
     ensures added { OnOk result (AreAdded names.new instances.now properties.old
         (fillings_of (map.entries forced.now)) properties.new) }
     ensures keeps { KeepsNumbers names.old names.new }
-    ensures most { length names.new ≤ length names.old + 2 * map.len forced.now }
+    ensures most { length names.new ≤ length names.old + 2 * length (map.entries forced.now) }
 {
     let mut text = String::new(alloc);
     for (at, bits) in forced.iter() {
-        if !is_clash(*bits) {
-            let site = instances.at(at.0 as usize).site;
-            let property = table_property(names, &mut text, site, at.1, bits.ones)?;
-            properties.push(property)?;
-        }
+        add_table(instances, properties, names, &mut text, *at, *bits)?;
     }
     Ok(())
 }

@@ -32,13 +32,7 @@ impl ToldTables {
 
     /// The table of the first cell of this name; none exactly where there is no such cell, or it
     /// has no table, or one of another number of inputs.
-    pub fn table(
-        &self,
-        flat: &Flat,
-        names: u32,
-        name: NameId,
-        inputs: u32,
-    ) -> Option<TruthTable>
+    pub fn table(&self, flat: &Flat, names: u32, name: NameId, inputs: u32) -> Option<TruthTable>
         requires told { AreTold flat.now names self.now }
         requires name { name < names }
         ensures { result ≡ told_table flat.now name inputs }

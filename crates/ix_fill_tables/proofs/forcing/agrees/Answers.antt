@@ -1,4 +1,4 @@
-use Rattle.std.proofs.Common.{◌≡◌, ◌<◌, ℕ, arith, length, subst, sym, inl, inr, refl}
+use Rattle.std.proofs.Common.{◌≡◌, arith, length, subst, sym, inl, inr, refl}
 use Rattle.std.proofs.lemmas.Bool.{cases_lt, false≢true, true≢false}
 use Rattle.std.proofs.Common.{◌∙◌}
 use Rattle.ix_lut.specs.Shapes.{held_by}

@@ -1,7 +1,7 @@
-use Rattle.std.proofs.Common.{◌≡◌, ◌<◌, ◌≤◌, ◌^◌, arith, length, ℕ, sym, subst}
+use Rattle.std.proofs.Common.{◌≡◌, ◌≤◌, ◌^◌, arith, length, sym, subst}
 use Rattle.ix_lut.specs.Shapes.{held_by, lut_on}
 use Rattle.ix_lut.proofs.Bits.{values_fit}
-use Rattle.ix_fill_tables.specs.Bits.{HasForced, AreForcedBelow}
+use Rattle.ix_fill_tables.specs.Bits.{HasForced}
 use Rattle.ix_fill_tables.proofs.Valued.{no_value, all_values, agrees_below}
 use Rattle.ix_fill_tables.proofs.forcing.forced_bits.Goals as goal
 

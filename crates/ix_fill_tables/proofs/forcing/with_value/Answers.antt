@@ -1,4 +1,4 @@
-use Rattle.std.proofs.Common.{◌≡◌, ◌∙◌, ◌+◌, ap, sym, ℕ, arith}
+use Rattle.std.proofs.Common.{◌≡◌, ◌∙◌, ap, sym, ℕ, arith}
 use Rattle.std.specs.Int.{bit_at}
 use Rattle.std.proofs.lemmas.Bool.{true≢false}
 use Rattle.std.proofs.lemmas.Nat.Bits.{shr_and_one, bit_at-lt}
@@ -42,7 +42,7 @@ returns-else-table-spelled-eq1 c =
     let held = held_by c.args.ties.now in
     let v : ℕ = c.args.values in
     let same : bit_at c.args.table (spelled c.args.used.now v)
-        ≡ bit_at c.args.table c.spelled.result =
+    ≡ bit_at c.args.table c.spelled.result =
     ap (bit_at c.args.table) (sym c.spelled.ensures.value) in
     let not_one = λ (e : bit_at c.args.table (spelled c.args.used.now v) ≡ 1).
     c.if-table-spelled-eq1.false (shr_and_one c.args.table c.spelled.result ∙ sym same ∙ e) in

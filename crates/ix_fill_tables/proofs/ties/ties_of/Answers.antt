@@ -1,5 +1,4 @@
 use Rattle.std.proofs.Common.{◌≡◌, ◌<◌, ◌≤◌, ◌∙◌, length, length-set, slice_index, arith, ℕ, sym}
-use Rattle.std.proofs.Common.{subst, Contains}
 use Rattle.ix_lut.specs.Shapes.{input_lines}
 use Rattle.ix_placed_luts.proofs.Tying.{line_of, taken_within}
 use Rattle.ix_fill_tables.proofs.Unused.{one_more_tied, used_passed}

@@ -1,4 +1,4 @@
-use Rattle.std.proofs.Common.{◌≡◌, ◌∙◌, ap, sym, Some}
+use Rattle.std.proofs.Common.{sym}
 use Rattle.ix_fill_tables.proofs.Wires.{adds_net, on_ok}
 use Rattle.ix_fill_tables.proofs.constants.ConstantWires.add_net.Goals as goal
 

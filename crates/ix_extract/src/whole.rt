@@ -151,8 +151,8 @@ pub fn extract_on(
     with_graph(alloc, &of, graph)
 }
 
-/// The same on a graph of its own, which it builds first, where L7 is kept at level placed. It takes
-/// memory by the device's nodes and PIPs too.
+/// The same on a graph of its own, which it builds first, where L7 is kept at level placed. It
+/// takes memory by the device's nodes and PIPs too.
 ///
 /// # Errors
 ///

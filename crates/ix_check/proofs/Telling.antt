@@ -32,26 +32,6 @@ compared names rec phys flat extracted (Ok answer) is told =
     record { extracted = extracted; is_extracted = is; compared = told }
 compared names rec phys flat extracted (Err e) is told = tt
 
--- names that are among fewer are among more
-pub flat_stays_named : (old new : ℕ) (flat : Flat) → old ≤ new → IsNamed old flat
-    → IsNamed new flat
-flat_stays_named old new flat le named = record {
-  cells = λ q cell at. lt_of_lt_of_le (named.cells q cell at) le;
-  types = λ q cell at. lt_of_lt_of_le (named.types q cell at) le;
-  nets = λ n net at. lt_of_lt_of_le (named.nets n net at) le;
-  pins = pins (entries flat.pins) named.pins;
-  drivers = λ n net at. driver net.driver (named.drivers n net at);
-}
-  where
-    pins : {V : Type 0} (es : List ((ℕ × ℕ) × V)) → AllByRecursion (λ entry. entry.0.1 < old) es
-        → AllByRecursion (λ entry. entry.0.1 < new) es
-    pins [] h = tt
-    pins (e ∷ es) h = (lt_of_lt_of_le h.0 le, pins es h.1)
-
-    driver : (d : Option CellPin) → IsDriverNamed old d → IsDriverNamed new d
-    driver None h = tt
-    driver (Some d) h = lt_of_lt_of_le h le
-
 -- Whether there are tables doesn't change as names are added.
 more_tables : (old new : List Text) (phys : Phys) → KeepsNumbers old new → HasTables old phys
     → HasTables new phys

@@ -19,7 +19,7 @@ use ix_fill_tables::fill_tables_on;
 use ix_graph::NodeGraph;
 use ix_legal::Level;
 use ix_num::Memory;
-use ix_read_laws::{devices_stay_named, names_are_no_fewer};
+use ix_read_laws::{devices_stay_named, flats_stay_named};
 use ix_rec::{Flat, Phys, Place, Rule};
 use ix_rules::first_broken;
 use ix_strings::Names;
@@ -102,7 +102,7 @@ pub fn check_netlist(
     ensures keeps { KeepsNumbers names.old names.new }
 {
     devices_stay_named();
-    names_are_no_fewer();
+    flats_stay_named();
     let derived = is_derived(device, &phys, names);
     let graph = NodeGraph::build(alloc, device)?;
     let completed = fill_tables_on(alloc, device, &graph, flat, phys, names)?;

@@ -1,7 +1,8 @@
 -- What the answer of `check` says of its outcome.
-use Rattle.std.proofs.Common.{◌≡◌, ◌∙◌, refl, ap, sym, subst, inl, inr, ◌⊎◌, [], length}
-use Rattle.std.proofs.Common.{Result, Ok, Err, Bool, true, false, IfOk}
-use Rattle.std.specs.Prelude.{if◌then◌else◌}
+use Rattle.std.proofs.Common.{◌≡◌, ◌∙◌, refl, ap, sym, inl, inr, ℕ, List, [], ◌∷◌, length}
+use Rattle.std.proofs.Common.{Result, Ok, Err, Bool, true, false, IfOk, Some}
+use Rattle.std.proofs.lemmas.Option.{same_Some}
+use Rattle.std.specs.Prelude.{if◌then◌else◌, slice_get}
 use Rattle.ix_rec.specs.declared.device.DeviceRec.{DeviceRec}
 use Rattle.ix_rec.specs.declared.flow.Flat.{Flat}
 use Rattle.ix_rec.specs.declared.place.File.TheVariants.{Device, Design}
@@ -63,10 +64,6 @@ stops : {A B : Type 0} (step : Step A) (next : A → Step B) (report : Report)
     → and_then step next (Err report) → IsNotDone report
 stops step next report f g (inl h) = f h
 stops step next report f g (inr h) = g h.0 h.2
-
-no_stops : (report : Report) {A : Type 0} (no : A → Report) (a : A)
-    → ((x : A) → status_of (no x) ≡ stat.Done → ⊥) → report ≡ no a → IsNotDone report
-no_stops report no a apart is done = apart a (sym (ap status_of is) ∙ done)
 
 physical_stops : (f : NamedFlat) (content : Content) (report : Report)
     → physical_in f content (Err report) → IsNotDone report
@@ -144,7 +141,7 @@ accepts level device design physical outcome h =
     }
 
 -- It has no outputs.
-none_either_way : (b : Bool) → (if b then 0 else 0) ≡ 0
+none_either_way : (b : Bool) → ◌≡◌ {A = ℕ} (if b then 0 else 0) 0
 none_either_way true = refl
 none_either_way false = refl
 
@@ -160,3 +157,13 @@ pub refusal_none : {M : Type 0} (r : Result made.Outcome M) → IfOk r (λ o. o.
     → IfOk r (λ o. HasOutputs 0 (outcome_seen o))
 refusal_none (Ok o) none = has_none (outcome_seen o) none
 refusal_none (Err e) none = tt
+
+-- a list of three items
+pub three_items : {A : Type 0} (xs : List A) (a b c : A) → length xs ≡ 3 → slice_get xs 0 ≡ Some a
+    → slice_get xs 1 ≡ Some b → slice_get xs 2 ≡ Some c → xs ≡ a ∷ b ∷ c ∷ []
+three_items [] a b c n p q r = absurd (omega (arith, n))
+three_items (x ∷ []) a b c n p q r = absurd (omega (arith, n))
+three_items (x ∷ y ∷ []) a b c n p q r = absurd (omega (arith, n))
+three_items (x ∷ y ∷ z ∷ []) a b c n p q r = let h : x ≡ a = same_Some x a p in let k : y ≡ b =
+    same_Some y b q in let l : z ≡ c = same_Some z c r in cc
+three_items (x ∷ y ∷ z ∷ w ∷ xs) a b c n p q r = absurd (omega (arith, n))

@@ -314,21 +314,21 @@ check_by_ending check before after report (inl answered) done =
     answered.has.is (sym (ap status_of answered.report_is) ∙ done) answered.has.read
     answered.written
 check_by_ending check before after report (inr (inl unread)) done =
-    let bad : stat.ReadFault unread.name ≡ stat.Done = sym (ap status_of unread.report_is) ∙ done in
-    cc
+    absurd (not_refused report (is_of_done report done) (ap is_done unread.report_is))
 check_by_ending check before after report (inr (inr (inl unwritten))) done =
-    let bad : stat.WriteFault unwritten.name ≡ stat.Done =
-    sym (ap status_of unwritten.report_is) ∙ done in cc
+    absurd (not_refused report (is_of_done report done) (ap is_done unwritten.report_is))
 check_by_ending check before after report (inr (inr (inr starved))) done =
-    let bad : stat.OutOfMemory ≡ stat.Done = sym (ap status_of starved.report_is) ∙ done in cc
+    absurd (not_refused report (is_of_done report done) (ap is_done starved.report_is))
+
+put_not_done : stat.PutFault ≡ stat.Done → ⊥
+put_not_done e = cc
 
 check_by_answered : (check : Check) (before after : Outside) (answered : Result Report Failed)
     → RunsJob (IsCheckOutcome check.level) (job_of_check check) before after answered
     → ended answered ≡ stat.Done → HasAccepted check before after
 check_by_answered check before after (Ok report) runs done =
     check_by_ending check before after report runs.ending done
-check_by_answered check before after (Err failed) runs done =
-    let bad : stat.PutFault ≡ stat.Done = done in cc
+check_by_answered check before after (Err failed) runs done = absurd (put_not_done done)
 
 -- the status of a job that is done, whether or not its line was put
 abbrev IsOfDone : Status → Type 0

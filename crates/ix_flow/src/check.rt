@@ -24,7 +24,7 @@ use ix_legal::Level;
 use ix_num::Memory;
 use ix_phys_laws::{read_netlists_are_sound, read_netlists_have_room};
 use ix_phys_read::read_phys;
-use ix_read_laws::{devices_stay_named, names_are_no_fewer, read_netlists_fit};
+use ix_read_laws::{devices_stay_named, flats_stay_named, read_netlists_fit};
 use ix_rec::{File, Flat, Items, NetlistRec, Phys, Place, Rule};
 use ix_report::Report;
 use ix_strings::Names;
@@ -121,7 +121,7 @@ fn check_flat(
         result }
 {
     devices_stay_named();
-    names_are_no_fewer();
+    flats_stay_named();
     let phys = read_physical(alloc, physical, names)?;
     judge(alloc, device, flat, phys, names, level)
 }

@@ -1,6 +1,7 @@
 //! Laws on records that were read, over the definitions alone.
 
-ghost use Rattle.ix_read_laws.specs.Laws.{DevicesStayNamed, NamesAreNoFewer};
+ghost use Rattle.ix_read_laws.specs.Laws.{DevicesStayNamed, FlatsStayNamed, FlatsStayWhole};
+ghost use Rattle.ix_read_laws.specs.Laws.{NamesAreNoFewer};
 ghost use Rattle.ix_read_laws.specs.Laws.{ReadDevicesFit, ReadNetlistsFit};
 
 /// The numbers of a logical netlist that was read are in its lists and among the names, and each
@@ -25,4 +26,11 @@ pub fn names_are_no_fewer()
 /// numbers.
 pub fn devices_stay_named()
     ensures { DevicesStayNamed }
+{}
+
+/// A flat design whose names are among those of a table is named by a larger one in which they keep
+/// their numbers, and is whole there if it was.
+pub fn flats_stay_named()
+    ensures named { FlatsStayNamed }
+    ensures whole { FlatsStayWhole }
 {}

@@ -1,6 +1,6 @@
-use Rattle.std.proofs.Common.{length, subst, Some}
+use Rattle.std.proofs.Common.{subst, Some}
 use Rattle.ix_check.specs.Wrong.{TellsWrong}
-use Rattle.ix_check.proofs.Telling.{accepted, flat_stays_named, refused, still_derived}
+use Rattle.ix_check.proofs.Telling.{accepted, refused, still_derived}
 use Rattle.ix_check.proofs.check.check_netlist.Goals as goal
 
 pub first_wrong-requires-clause-device : goal.first_wrong-requires-clause-device
@@ -8,10 +8,8 @@ first_wrong-requires-clause-device c = c.devices_stay_named.ensures c.args.names
     c.fill_tables_on.new.names c.args.device.now c.fill_tables_on.ensures.keeps c.requires.device
 
 pub first_wrong-requires-clause-named : goal.first_wrong-requires-clause-named
-first_wrong-requires-clause-named c = flat_stays_named (length c.args.names.now)
-    (length c.fill_tables_on.new.names) c.args.flat.now
-    (c.names_are_no_fewer.ensures c.args.names.now c.fill_tables_on.new.names
-    c.fill_tables_on.ensures.keeps) c.requires.named
+first_wrong-requires-clause-named c = c.flats_stay_named.ensures.named c.args.names.now
+    c.fill_tables_on.new.names c.args.flat.now c.fill_tables_on.ensures.keeps c.requires.named
 
 pub returns-in-None-clause-verdict : goal.returns-in-None-clause-verdict
 returns-in-None-clause-verdict c = (

@@ -1,4 +1,3 @@
-use Rattle.std.proofs.Common.{length}
 use Rattle.ix_job.specs.Chains.{exits_first, goes_on}
 use Rattle.ix_job.specs.Views.{content_seen, outcome_seen}
 use Rattle.ix_flow.specs.CheckAnswer.{judged, physical_in}
@@ -19,3 +18,16 @@ returns c f same =
     (λ p. judged c.args.level c.args.device.now c.args.flat.now p)
     (named_phys c.read_physical.new.names c.in_ok-phys.phys) c.judge.result
     (c.in_ok-phys.ensures.read f same) c.judge.ensures
+
+pub judge-requires-clause-device : goal.judge-requires-clause-device
+judge-requires-clause-device c = c.devices_stay_named.ensures c.args.names.now
+    c.read_physical.new.names c.args.device.now c.in_ok-phys.ensures.keeps c.requires.device
+
+pub judge-requires-clause-named : goal.judge-requires-clause-named
+judge-requires-clause-named c = c.flats_stay_named.ensures.named c.args.names.now
+    c.read_physical.new.names c.args.flat.now c.in_ok-phys.ensures.keeps c.requires.named
+
+pub judge-requires-clause-whole : goal.judge-requires-clause-whole
+judge-requires-clause-whole c = c.flats_stay_named.ensures.whole c.args.names.now
+    c.read_physical.new.names c.args.device.now c.args.flat.now c.in_ok-phys.ensures.keeps
+    c.requires.whole

@@ -424,7 +424,7 @@ def main():
     files = {
         RUNS / "data" / "eight_clbs": digits("device", device_text("eight_clbs")),
         RUNS / "data" / "a_hundred_cells": digits("netlist", design_of("a_hundred_cells")),
-        RUNS / "data" / "joined_sinks": digits("device", device_of("joined_sinks")),
+        RUNS / "data" / "joined_sinks": (TOP / "crates" / "ix_device_cases" / "data" / "joined_sinks").read_text(encoding="utf8"),
     }
     cases = list(all_cases(files))
     before = (RUNS / "data" / "cases").read_text(encoding="utf8").partition(HEAD)[0]

@@ -1,9 +1,7 @@
 -- From what the code has to the answer.
 use Rattle.std.proofs.Common.{◌≡◌, ◌∙◌, ◌≤◌, ◌^◌, ap, sym, inl, inr, ℕ, List, [], ◌∷◌, length, slice_get}
-use Rattle.std.proofs.Common.{Some, None, Ok, Err, true, false, Bool, nat_lt, refl}
-use Rattle.std.proofs.Math.Nat.{not-suc-le_self}
-use borrow.Author.Tests.{ltb-true, ltb-false}
-use Rattle.std.proofs.lemmas.Option.{same_Some, slice_get_within, slice_get-get_or}
+use Rattle.std.proofs.Common.{Some, None, Ok, Err, false, refl}
+use Rattle.std.proofs.lemmas.Option.{same_Some}
 use Rattle.ix_message.specs.Shape.{Struct, Text}
 use Rattle.ix_rec.specs.declared.device.DeviceRec.{DeviceRec}
 use Rattle.ix_strings.specs.Names.{AllDiffer, KeepsNumbers}

@@ -1,6 +1,6 @@
 -- What the answer of `check` says of its outcome.
 use Rattle.std.proofs.Common.{◌≡◌, ◌∙◌, refl, ap, sym, inl, inr, ℕ, List, [], ◌∷◌, length}
-use Rattle.std.proofs.Common.{Result, Ok, Err, Bool, true, false, IfOk, Some}
+use Rattle.std.proofs.Common.{Result, Ok, Err, Bool, true, false, IfOk, Some, arith}
 use Rattle.std.proofs.lemmas.Option.{same_Some}
 use Rattle.std.specs.Prelude.{if◌then◌else◌, slice_get}
 use Rattle.ix_rec.specs.declared.device.DeviceRec.{DeviceRec}
@@ -8,9 +8,7 @@ use Rattle.ix_rec.specs.declared.flow.Flat.{Flat}
 use Rattle.ix_rec.specs.declared.place.File.TheVariants.{Device, Design}
 use Rattle.ix_report.specs.declared.report.Report.{Report}
 use Rattle.ix_report.specs.declared.report.Report.TheVariants as a_report
-use Rattle.ix_frame.specs.Segments.{Segments}
 use Rattle.ix_legal.specs.declared.level.Level.{Level}
-use Rattle.ix_job.specs.declared.stop.Stop.{Stop}
 use Rattle.ix_job.specs.declared.work.Outcome as made
 use Rattle.ix_job.specs.Views.{outcome_seen}
 use Rattle.ix_job.specs.Outside.{writes, is_done}

@@ -19,7 +19,7 @@ use Rattle.ix_message.specs.Message.{reading}
 use Rattle.ix_message.specs.Phys.{phys_netlist}
 use Rattle.ix_phys_write.specs.Record.{phys_record}
 use Rattle.ix_flat.specs.Range.{IsInRange}
-use Rattle.ix_flat.specs.Whole.{AllDiffer, IsWhole}
+use Rattle.ix_flat.specs.Whole.{IsWhole}
 use Rattle.ix_belmap.specs.declared.ports.Fixing.{Fixing}
 use Rattle.ix_belmap.specs.Pins.{fixings, IsFixed}
 use Rattle.ix_first_fit.specs.declared.cell.Spot.{Spot}

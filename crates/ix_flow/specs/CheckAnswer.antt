@@ -12,7 +12,6 @@ use Rattle.ix_report.specs.declared.report.Report.TheVariants.{Yes, No}
 use Rattle.ix_frame.specs.Segments.{Segments}
 use Rattle.ix_strings.specs.Names.{AllDiffer, KeepsNumbers}
 use Rattle.ix_message.specs.Shape.{Text}
-use Rattle.ix_message.specs.Message.{reading}
 use Rattle.ix_message.specs.Phys.{phys_netlist}
 use Rattle.ix_device_read.specs.Reading.{reading_in_segments}
 use Rattle.ix_phys_write.specs.Record.{phys_record, IsPhysNamed}

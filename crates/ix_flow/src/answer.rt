@@ -210,6 +210,7 @@ pub(crate) fn flat_design(
     ensures flat { Meets (named_flat names.new)
         (flattened device.now (named_design names.old rec.now)) result }
     ensures keeps { KeepsNumbers names.old names.new }
+    ensures most { length names.new ≤ length names.old + 2 ^ 29 }
 {
     read_netlists_fit();
     read_devices_fit();

@@ -5,7 +5,7 @@ ghost use Rattle.ix_report.specs.Lines.{line_of};
 ghost use Rattle.ix_job.specs.Outside.{outside, PutsLine};
 ghost use Rattle.ix_flow.specs.Words.{asked_in, checking, flowing};
 ghost use Rattle.ix_flow.specs.WordsView.{check_view, flow_view};
-ghost use Rattle.ix_flow.specs.Run.{IsRun, IsComplete};
+ghost use Rattle.ix_flow.specs.Run.{ended, IsRun, IsComplete};
 ghost use Rattle.ix_flow.specs.Implements.{IsImplemented};
 
 use crate::check_work::CheckWork;
@@ -14,8 +14,8 @@ use crate::words::{CheckWords, FlowWords, Words, asked_words};
 use crate::work::FlowWork;
 use ix_fit_legal::fits_are_legal;
 use ix_job::run_job;
-use ix_report::USAGE_LINE;
-use ix_shelf::{Shelf, Sink, say};
+use ix_report::{Report, USAGE_LINE};
+use ix_shelf::{Failed, Shelf, Sink, say};
 use std::alloc::Global;
 
 // Prints a line. Where not all of it is put, nothing more can be told.
@@ -25,6 +25,16 @@ fn print<O: Sink>(out: &mut O, line: &[u8])
     ensures faults { O.faults out.old ≤ O.faults out.new }
 {
     let _ = say(out, line);
+}
+
+// The status of what the run of a job answers.
+fn ended(answered: Result<Report, Failed>) -> Status
+    ensures { result ≡ ended answered }
+{
+    match answered {
+        Ok(report) => status_of(report),
+        Err(_) => Status::PutFault,
+    }
 }
 
 fn run_flow<S: Shelf, O: Sink>(
@@ -42,10 +52,7 @@ fn run_flow<S: Shelf, O: Sink>(
 {
     let inputs = [flow.device, flow.design];
     let outputs = [flow.routed];
-    match run_job(alloc, &FlowWork, &inputs, &outputs, shelf, out) {
-        Ok(report) => status_of(report),
-        Err(_) => Status::PutFault,
-    }
+    ended(run_job(alloc, &FlowWork, &inputs, &outputs, shelf, out))
 }
 
 fn run_check<S: Shelf, O: Sink>(
@@ -63,10 +70,7 @@ fn run_check<S: Shelf, O: Sink>(
 {
     let work = CheckWork { level: check.level };
     let inputs = [check.device, check.design, check.physical];
-    match run_job(alloc, &work, &inputs, &[], shelf, out) {
-        Ok(report) => status_of(report),
-        Err(_) => Status::PutFault,
-    }
+    ended(run_job(alloc, &work, &inputs, &[], shelf, out))
 }
 
 /// Runs the program for the words that follow its name, over a shelf of files and a sink for the

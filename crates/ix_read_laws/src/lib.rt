@@ -3,5 +3,6 @@
 
 mod laws;
 
-pub use laws::{devices_stay_named, flats_stay_named, names_are_no_fewer};
-pub use laws::{read_devices_fit, read_netlists_fit};
+pub use laws::{
+    devices_stay_named, flats_stay_named, names_are_no_fewer, read_devices_fit, read_netlists_fit,
+};

@@ -1,6 +1,8 @@
-use Rattle.std.proofs.Common.{Option, subst}
+use Rattle.std.proofs.Common.{◌∙◌, ap, sym, Option, Some, subst}
 use Rattle.ix_job.specs.Outside.{outside}
-use Rattle.ix_flow.specs.Words.{Asked}
+use Rattle.ix_flow.specs.declared.words.Words.{Words}
+use Rattle.ix_flow.specs.Words.{Asked, checking, flowing}
+use Rattle.ix_flow.specs.WordsView.{asked_view, check_view, flow_view}
 use Rattle.ix_flow.specs.Run.{IsRun, IsComplete}
 use Rattle.ix_flow.proofs.Implementing.{run_implements, usage_not_done}
 use Rattle.ix_flow.proofs.program.run.Goals as goal
@@ -11,8 +13,11 @@ returns-in-Some-Flow-clause-run g c =
     g.O.Sink.faults c.args.shelf.now c.args.out.now in
     let after = outside g.S.Shelf.files g.S.Shelf.read_faults g.S.Shelf.write_faults g.O.Sink.told
     g.O.Sink.faults c.run_flow.new.shelf c.run_flow.new.out in
-    subst (λ (w : Option Asked). IsRun w before after c.run_flow.result) c.in-Some-Flow.ensures
-    c.run_flow.ensures.run
+    let ran : IsRun (Some (flowing (flow_view c.in-Some-Flow.flow))) before after c.run_flow.result =
+    c.run_flow.ensures.run in
+    let asked = ap (λ (words : Words). Some (asked_view words)) (sym c.in-Some-Flow.field-0-is)
+    ∙ c.in-Some-Flow.ensures in
+    subst (λ (asked : Option Asked). IsRun asked before after c.run_flow.result) asked ran
 
 pub returns-in-Some-Flow-clause-complete : goal.returns-in-Some-Flow-clause-complete
 returns-in-Some-Flow-clause-complete g c =
@@ -20,8 +25,11 @@ returns-in-Some-Flow-clause-complete g c =
     g.O.Sink.faults c.args.shelf.now c.args.out.now in
     let after = outside g.S.Shelf.files g.S.Shelf.read_faults g.S.Shelf.write_faults g.O.Sink.told
     g.O.Sink.faults c.run_flow.new.shelf c.run_flow.new.out in
-    subst (λ (w : Option Asked). IsComplete w before after c.run_flow.result) c.in-Some-Flow.ensures
-    c.run_flow.ensures.complete
+    let ran : IsComplete (Some (flowing (flow_view c.in-Some-Flow.flow))) before after c.run_flow.result =
+    c.run_flow.ensures.complete in
+    let asked = ap (λ (words : Words). Some (asked_view words)) (sym c.in-Some-Flow.field-0-is)
+    ∙ c.in-Some-Flow.ensures in
+    subst (λ (asked : Option Asked). IsComplete asked before after c.run_flow.result) asked ran
 
 pub returns-in-Some-Flow-clause-implements : goal.returns-in-Some-Flow-clause-implements
 returns-in-Some-Flow-clause-implements g c =
@@ -33,8 +41,11 @@ returns-in-Some-Check-clause-run g c =
     g.O.Sink.faults c.args.shelf.now c.args.out.now in
     let after = outside g.S.Shelf.files g.S.Shelf.read_faults g.S.Shelf.write_faults g.O.Sink.told
     g.O.Sink.faults c.run_check.new.shelf c.run_check.new.out in
-    subst (λ (w : Option Asked). IsRun w before after c.run_check.result) c.in-Some-Check.ensures
-    c.run_check.ensures.run
+    let ran : IsRun (Some (checking (check_view c.in-Some-Check.check))) before after c.run_check.result =
+    c.run_check.ensures.run in
+    let asked = ap (λ (words : Words). Some (asked_view words)) (sym c.in-Some-Check.field-0-is)
+    ∙ c.in-Some-Check.ensures in
+    subst (λ (asked : Option Asked). IsRun asked before after c.run_check.result) asked ran
 
 pub returns-in-Some-Check-clause-complete : goal.returns-in-Some-Check-clause-complete
 returns-in-Some-Check-clause-complete g c =
@@ -42,8 +53,11 @@ returns-in-Some-Check-clause-complete g c =
     g.O.Sink.faults c.args.shelf.now c.args.out.now in
     let after = outside g.S.Shelf.files g.S.Shelf.read_faults g.S.Shelf.write_faults g.O.Sink.told
     g.O.Sink.faults c.run_check.new.shelf c.run_check.new.out in
-    subst (λ (w : Option Asked). IsComplete w before after c.run_check.result) c.in-Some-Check.ensures
-    c.run_check.ensures.complete
+    let ran : IsComplete (Some (checking (check_view c.in-Some-Check.check))) before after c.run_check.result =
+    c.run_check.ensures.complete in
+    let asked = ap (λ (words : Words). Some (asked_view words)) (sym c.in-Some-Check.field-0-is)
+    ∙ c.in-Some-Check.ensures in
+    subst (λ (asked : Option Asked). IsComplete asked before after c.run_check.result) asked ran
 
 pub returns-in-Some-Check-clause-implements : goal.returns-in-Some-Check-clause-implements
 returns-in-Some-Check-clause-implements g c =

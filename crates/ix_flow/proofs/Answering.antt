@@ -1,9 +1,7 @@
 -- From what the code has to the answer.
 use Rattle.std.proofs.Common.{◌≡◌, ◌∙◌, ◌≤◌, ◌^◌, ap, sym, inl, inr, ℕ, List, [], ◌∷◌, length, slice_get}
-use Rattle.std.proofs.Common.{Some, None, Ok, Err, true, false, Bool, nat_lt, refl}
-use Rattle.std.proofs.Math.Nat.{not-suc-le_self}
-use borrow.Author.Tests.{ltb-true, ltb-false}
-use Rattle.std.proofs.lemmas.Option.{same_Some, slice_get_within, slice_get-get_or}
+use Rattle.std.proofs.Common.{Some, None, Ok, Err, false, refl}
+use Rattle.std.proofs.lemmas.Option.{same_Some}
 use Rattle.ix_message.specs.Shape.{Struct, Text}
 use Rattle.ix_rec.specs.declared.device.DeviceRec.{DeviceRec}
 use Rattle.ix_strings.specs.Names.{AllDiffer, KeepsNumbers}
@@ -45,7 +43,6 @@ use Rattle.ix_flow.specs.Answer.{NamedDevice, rule_of, device_in, design_in, pla
 use Rattle.ix_flow.specs.Answer.{flattened, implemented}
 use Rattle.ix_flow.specs.Named.{named_device, named_design, named_flat, named_cells, TellsUnread}
 use Rattle.ix_first_fit.specs.Laws.{FitsHaveOwnPlaces}
-use Rattle.ix_flow.proofs.MoreNames.{more_device}
 
 -- the name of the cell where first fit stops
 pub stuck_named : (names : List Text) (rec : DeviceRec) (cells : List FlatCell) (k : ℕ) (c : FlatCell)
@@ -54,21 +51,6 @@ pub stuck_named : (names : List Text) (rec : DeviceRec) (cells : List FlatCell) 
     → slice_get names s.cell.name ≡ Some text
 stuck_named names rec cells k c text s at told =
     ap (λ (x : FlatCell). slice_get names x.name) (same_Some s.cell c (sym s.at ∙ at)) ∙ told
-
--- where each name keeps its number, there are no fewer names
-no_fewer : (old new : List Text) → KeepsNumbers old new → length old ≤ length new
-no_fewer old new keeps = by (nat_lt (length new) (length old)) refl
-  where
-    by : (b : Bool) → nat_lt (length new) (length old) ≡ b → length old ≤ length new
-    by true e = absurd (not-suc-le_self (length new)
-        (slice_get_within new (length new) _
-        (keeps (length new) _ (slice_get-get_or old (length new) []
-        (ltb-true (length new) (length old) e)))))
-    by false e = ltb-false (length new) (length old) e
-
-pub still_named : (old new : List Text) (rec : DeviceRec) → KeepsNumbers old new
-    → DeviceNamed (length old) rec → DeviceNamed (length new) rec
-still_named old new rec keeps h = more_device (no_fewer old new keeps) rec h
 
 -- what each step tells
 pub device_told : (all : Segments) (names : List Text) (rec : DeviceRec) → AllDiffer names

@@ -19,7 +19,7 @@ use Rattle.ix_message.specs.Message.{reading}
 use Rattle.ix_message.specs.Phys.{phys_netlist}
 use Rattle.ix_phys_write.specs.Record.{phys_record}
 use Rattle.ix_flat.specs.Range.{IsInRange}
-use Rattle.ix_flat.specs.Whole.{AllDiffer, IsWhole}
+use Rattle.ix_flat.specs.Whole.{IsWhole}
 use Rattle.ix_belmap.specs.declared.ports.Fixing.{Fixing}
 use Rattle.ix_belmap.specs.Pins.{fixings, IsFixed}
 use Rattle.ix_first_fit.specs.declared.cell.Spot.{Spot}
@@ -31,46 +31,22 @@ use Rattle.ix_job.specs.Job.{IsEnding, RunsJob}
 use Rattle.ix_job.specs.Chain.{comes_to}
 use Rattle.ix_flow.specs.declared.status.Status.{Status}
 use Rattle.ix_flow.specs.declared.status.Status.TheVariants as stat
-use Rattle.ix_flow.specs.Words.{Flow}
+use Rattle.ix_flow.specs.Words.{Asked, Check, Flow, checking, flowing}
+use Rattle.ix_flow.specs.CheckAnswer.{check_answer, IsCheckOutcome}
+use Rattle.ix_flow.proofs.Checking.{accepts, check_refuses, is_of_done}
 use Rattle.ix_flow.specs.Status.{status_of}
 use Rattle.ix_flow.specs.Answer.{IsValid}
 use Rattle.ix_flow.specs.Answer.{NamedDevice, NamedDesign, NamedFlat, NamedCells, IsFlatDesign}
 use Rattle.ix_flow.specs.Answer.{IsUnconnected, IsPlaced, IsWritten, cells_in, answer}
 use Rattle.ix_flow.specs.Answer.{IsFlowOutcome}
-use Rattle.ix_flow.specs.Run.{job_for, IsRun, ended}
+use Rattle.ix_flow.specs.Run.{job_for, job_of_check, IsRun, ended}
 use Rattle.ix_flow.specs.Implements.{HasWholeMap, HaveWholeMaps, placed_texts, Implements}
-use Rattle.ix_flow.specs.Implements.{KeepsDesign, HasImplemented, IsImplemented}
+use Rattle.ix_flow.specs.Implements.{KeepsDesign, HasAccepted, HasImplemented, IsImplemented}
 use Rattle.ix_flow.proofs.Outputs.{answer_refuses}
 use Rattle.ix_fit_legal.specs.Laws.{FitsAreLegal}
 use Rattle.ix_flow.proofs.Unconnected.{NoPin, no_nets, no_tables, are_plain}
 
--- a report of status 0 is of a job that is done
-is_of_done : (report : Report) → status_of report ≡ stat.Done → is_done report ≡ true
-is_of_done (a_report.Packed cells clusters) e = refl
-is_of_done (a_report.Placed clusters length) e = refl
-is_of_done (a_report.Routed nets pips rounds) e = refl
-is_of_done (a_report.Implemented cells clusters nets pips trial rounds) e = refl
-is_of_done (a_report.Yes derived) e = refl
-is_of_done (a_report.No rule place) e = refl
-is_of_done (a_report.Demo number luts flip_flops ports) e = refl
-is_of_done a_report.Usage e = let bad : stat.Usage ≡ stat.Done = e in cc
-is_of_done (a_report.Bad file rule place) e = let bad : stat.Bad file rule place ≡ stat.Done = e in
-    cc
-is_of_done (a_report.NotBuilt file) e = let bad : stat.NotBuilt file ≡ stat.Done = e in cc
-is_of_done a_report.TooLong e = let bad : stat.TooLong ≡ stat.Done = e in cc
-is_of_done (a_report.TooFewBels kind cells bels) e =
-    let bad : stat.TooFewBels kind cells bels ≡ stat.Done = e in cc
-is_of_done (a_report.Unpackable cell) e = let bad : stat.Unpackable cell ≡ stat.Done = e in cc
-is_of_done (a_report.NoSite cell) e = let bad : stat.NoSite cell ≡ stat.Done = e in cc
-is_of_done (a_report.Unreachable net node) e = let bad : stat.Unreachable net node ≡ stat.Done =
-    e in cc
-is_of_done (a_report.Congested node a b rounds trial) e =
-    let bad : stat.Congested node a b rounds trial ≡ stat.Done = e in cc
-is_of_done (a_report.ReadFault file) e = let bad : stat.ReadFault file ≡ stat.Done = e in cc
-is_of_done (a_report.WriteFault file) e = let bad : stat.WriteFault file ≡ stat.Done = e in cc
-is_of_done a_report.OutOfMemory e = let bad : stat.OutOfMemory ≡ stat.Done = e in cc
-
--- and none is of a fault at printing
+-- no report is of a fault at printing
 no_put_fault : (report : Report) → status_of report ≡ stat.PutFault → ⊥
 no_put_fault (a_report.Packed cells clusters) e = let bad : stat.Done ≡ stat.PutFault = e in cc
 no_put_fault (a_report.Placed clusters length) e = let bad : stat.Done ≡ stat.PutFault = e in cc
@@ -290,6 +266,70 @@ by_ending law flow before after report (inr (inr (inl unwritten))) done =
 by_ending law flow before after report (inr (inr (inr starved))) done =
     absurd (not_refused report done (ap is_done starved.report_is))
 
+-- A run of `check` that ends with status 0 was answered, and the netlist accepted.
+files_kept : (outputs : List (List ℕ)) (o : Option Files) → option_map (with_files [] outputs) o ≡ o
+files_kept outputs None = refl
+files_kept outputs (Some files) = refl
+
+check_from_outcome : (check : Check) (before after : Outside) (device design physical : Content)
+    (outcome : Outcome) → comes_to (check_answer check.level device design physical) outcome
+    → status_of outcome.report ≡ stat.Done
+    → ((files : Files) → before.files ≡ Some files → AreContents files
+    (check.device ∷ check.design ∷ check.physical ∷ []) (device ∷ design ∷ physical ∷ []))
+    → after.files ≡ option_map (with_files [] outcome.outputs) before.files
+    → HasAccepted check before after
+check_from_outcome check before after device design physical outcome (inl ok) done read written =
+    record {
+      device = device;
+      design = design;
+      physical = physical;
+      read = read;
+      kept = written ∙ files_kept outcome.outputs before.files;
+      accepts = accepts check.level device design physical outcome ok;
+    }
+check_from_outcome check before after device design physical outcome (inr refusal) done read
+    written =
+    absurd (check_refuses check.level device design physical outcome.report refusal.0 done)
+
+check_from_contents : (check : Check) (before after : Outside) (contents : List Content)
+    (outcome : Outcome) → IsCheckOutcome check.level contents outcome
+    → status_of outcome.report ≡ stat.Done
+    → ((files : Files) → before.files ≡ Some files → AreContents files
+    (check.device ∷ check.design ∷ check.physical ∷ []) contents)
+    → after.files ≡ option_map (with_files [] outcome.outputs) before.files
+    → HasAccepted check before after
+check_from_contents check before after [] outcome is done read written = absurd is
+check_from_contents check before after (a ∷ []) outcome is done read written = absurd is
+check_from_contents check before after (a ∷ b ∷ []) outcome is done read written = absurd is
+check_from_contents check before after (a ∷ b ∷ c ∷ []) outcome is done read written =
+    check_from_outcome check before after a b c outcome is done read written
+check_from_contents check before after (a ∷ b ∷ c ∷ d ∷ more) outcome is done read written =
+    absurd is
+
+check_by_ending : (check : Check) (before after : Outside) (report : Report)
+    → IsEnding (IsCheckOutcome check.level) (job_of_check check) before after report
+    → status_of report ≡ stat.Done → HasAccepted check before after
+check_by_ending check before after report (inl answered) done =
+    check_from_contents check before after answered.has.contents answered.has.outcome
+    answered.has.is (sym (ap status_of answered.report_is) ∙ done) answered.has.read
+    answered.written
+check_by_ending check before after report (inr (inl unread)) done =
+    absurd (not_refused report (is_of_done report done) (ap is_done unread.report_is))
+check_by_ending check before after report (inr (inr (inl unwritten))) done =
+    absurd (not_refused report (is_of_done report done) (ap is_done unwritten.report_is))
+check_by_ending check before after report (inr (inr (inr starved))) done =
+    absurd (not_refused report (is_of_done report done) (ap is_done starved.report_is))
+
+put_not_done : stat.PutFault ≡ stat.Done → ⊥
+put_not_done e = cc
+
+check_by_answered : (check : Check) (before after : Outside) (answered : Result Report Failed)
+    → RunsJob (IsCheckOutcome check.level) (job_of_check check) before after answered
+    → ended answered ≡ stat.Done → HasAccepted check before after
+check_by_answered check before after (Ok report) runs done =
+    check_by_ending check before after report runs.ending done
+check_by_answered check before after (Err failed) runs done = absurd (put_not_done done)
+
 -- the status of a job that is done, whether or not its line was put
 abbrev IsOfDone : Status → Type 0
 IsOfDone status = (status ≡ stat.Done) ⊎ (status ≡ stat.PutFault)
@@ -306,14 +346,20 @@ by_answered law flow before after (Ok report) runs done =
 by_answered law flow before after (Err failed) runs done =
     by_ending law flow before after runs.0 runs.1.ending runs.1.told.0
 
-pub run_implements : (law : FitsAreLegal) → (words : Option Flow) (before after : Outside) (status : Status)
-    → IsRun words before after status → IsOfDone status → IsImplemented words before after
+pub run_implements : (law : FitsAreLegal) → (words : Option Asked) (before after : Outside)
+    (status : Status) → IsRun words before after status → IsOfDone status
+    → IsImplemented words before after status
 run_implements law None before after status run (inl done) = let bad : stat.Usage ≡ stat.Done =
     sym run.usage ∙ done in cc
 run_implements law None before after status run (inr put) = let bad : stat.Usage ≡ stat.PutFault =
     sym run.usage ∙ put in cc
-run_implements law (Some flow) before after status run done =
+run_implements law (Some (flowing flow)) before after status run done =
     by_answered law flow before after run.answered run.runs (subst IsOfDone run.status_is done)
+run_implements law (Some (checking check)) before after status run (inl done) =
+    subst (IsImplemented (Some (checking check)) before after) (sym done)
+    (check_by_answered check before after run.answered run.runs (sym run.status_is ∙ done))
+run_implements law (Some (checking check)) before after status run (inr put) =
+    subst (IsImplemented (Some (checking check)) before after) (sym put) tt
 
 pub usage_not_done : IsOfDone stat.Usage → ⊥
 usage_not_done (inl done) = let bad : stat.Usage ≡ stat.Done = done in cc

@@ -23,7 +23,7 @@ use Rattle.ix_flow.specs.Answer.{NamedDevice, NamedDesign, NamedFlat, NamedCells
 use Rattle.ix_flow.specs.Answer.{design_in, flattened, pinned, unconnected, cells_in, placed}
 use Rattle.ix_flow.specs.Answer.{written, netlist_for, answer_for, answer}
 
-abbrev IsRefusal : Report → Type 0
+abbrev pub IsRefusal : Report → Type 0
 IsRefusal report = is_done report ≡ false
 
 -- a report that isn't of a done job is of none that has written its outputs
@@ -53,7 +53,7 @@ abbrev HasOne : Outcome → Type 0
 HasOne outcome = HasOutputs 1 outcome
 
 -- what holds after each second step
-goes_on_to : {A B : Type 0} (P : B → Type 0) (step : Step A) (next : A → Step B) (b : B)
+pub goes_on_to : {A B : Type 0} (P : B → Type 0) (step : Step A) (next : A → Step B) (b : B)
     → ((a : A) → next a (Ok b) → P b) → and_then step next (Ok b) → P b
 goes_on_to P step next b f h = f h.0 h.2
 
@@ -64,22 +64,22 @@ refuses : {A B : Type 0} (step : Step A) (next : A → Step B) (report : Report)
 refuses step next report f g (inl h) = f h
 refuses step next report f g (inr h) = g h.0 h.2
 
-opens_refuses : (file : File) (content : Content) (report : Report)
+pub opens_refuses : (file : File) (content : Content) (report : Report)
     → opens file content (Err report) → IsRefusal report
 opens_refuses file content report h = ap is_done h.2
 
-device_refuses : (all : Segments) (report : Report) → device_in all (Err report) → IsRefusal report
+pub device_refuses : (all : Segments) (report : Report) → device_in all (Err report) → IsRefusal report
 device_refuses all report h = ap is_done h.3
 
-design_refuses : (d : NamedDevice) (all : Segments) (report : Report) → design_in d all (Err report)
+pub design_refuses : (d : NamedDevice) (all : Segments) (report : Report) → design_in d all (Err report)
     → IsRefusal report
 design_refuses d all report h = ap is_done h.3
 
-flattened_refuses : (rec : DeviceRec) (design : NamedDesign) (report : Report)
+pub flattened_refuses : (rec : DeviceRec) (design : NamedDesign) (report : Report)
     → flattened rec design (Err report) → IsRefusal report
 flattened_refuses rec design report h = ap is_done h.3
 
-pinned_refuses : (rec : DeviceRec) (design : NamedDesign) (f : NamedFlat) (report : Report)
+pub pinned_refuses : (rec : DeviceRec) (design : NamedDesign) (f : NamedFlat) (report : Report)
     → pinned rec design f (Err report) → IsRefusal report
 pinned_refuses rec design f report h = ap is_done h.3
 

@@ -2,10 +2,9 @@
 use Rattle.std.proofs.Common.{◌≡◌, ◌∙◌, ap, refl, sym, subst, ℕ, ◌+◌, ◌<◌, List, [], ◌∷◌, length, map}
 use Rattle.std.proofs.Common.{slice_get, zero, suc, Option, Some, None, IfSome, is_some, cond}
 use Rattle.std.proofs.Common.{arith, codes, Bool, ◌++◌}
-use Rattle.std.specs.List.{AllByRecursion, cons_option, filter_map, flat_map, range_with_len, sum_by}
+use Rattle.std.specs.List.{AllByRecursion, cons_option, filter_map, range_with_len, sum_by}
 use Rattle.std.proofs.lemmas.List.Concat.{length-flat_map}
 use Rattle.std.proofs.lemmas.List.FromFn.{length-map-range_with_len}
-use Rattle.std.proofs.lemmas.List.{length-map}
 use Rattle.std.proofs.lemmas.List.Sums.{sum_by-cons}
 use Rattle.ix_message.specs.Shape.{Text}
 use Rattle.ix_rec.specs.declared.device.Direction.{Direction}

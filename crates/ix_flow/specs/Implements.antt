@@ -20,9 +20,15 @@ use Rattle.ix_hierarchy.specs.FlatDesign.{cell_texts}
 use Rattle.ix_belmap.specs.Pins.{fixings, IsFixed}
 use Rattle.ix_first_fit.specs.declared.cell.Spot.{Spot}
 use Rattle.ix_first_fit.specs.Netlist.{bel_name, IsPinMap}
+use Rattle.ix_legal.specs.declared.level.Level.{Level}
 use Rattle.ix_legal.specs.declared.level.Level.TheVariants.{Routed}
 use Rattle.ix_legal.specs.Legal.{Legal}
-use Rattle.ix_flow.specs.Words.{Flow}
+use Rattle.ix_flow.specs.Words.{Asked, Check, Flow, checking, flowing}
+use Rattle.ix_strings.specs.Names.{KeepsNumbers}
+use Rattle.ix_check.specs.Checked.{IsAccepted}
+use Rattle.ix_flow.specs.declared.status.Status.{Status}
+use Rattle.ix_flow.specs.declared.status.Status.TheVariants.{Done}
+use Rattle.ix_flow.specs.CheckAnswer.{NamedPhys, IsPhysRead}
 use Rattle.ix_flow.specs.Answer.{opened, NamedDevice, IsValid, NamedDesign, IsDesignRead}
 use Rattle.ix_flow.specs.Answer.{NamedFlat, IsFlatDesign}
 
@@ -87,7 +93,45 @@ pub record HasImplemented (flow : Flow) (before after : Outside) : Type 0 where
   pub written : after.files ≡ option_map (with_file flow.routed output) before.files
   pub implements : Implements device design output
 
--- words that are refused never end so
-abbrev pub IsImplemented : Option Flow → (before after : Outside) → Type 0
-IsImplemented None before after = ⊥
-IsImplemented (Some flow) before after = HasImplemented flow before after
+-- What status 0 of `check` says: the stated rules hold of the netlist of a file at the level, and
+-- the design that is extracted from it is the flattened one, LUT tables being derived for a netlist
+-- that has none.
+pub record Accepts (level : Level) (device design physical : Content) : Type 0 where
+  pub device_segments : Segments
+  pub device_opens : opened device ≡ Ok device_segments
+  pub on : NamedDevice
+  pub valid : IsValid device_segments on
+  pub design_segments : Segments
+  pub design_opens : opened design ≡ Ok design_segments
+  pub design_rec : NamedDesign
+  pub design_read : IsDesignRead on design_segments design_rec
+  pub flattened : NamedFlat
+  pub is_flat : IsFlatDesign on.rec design_rec flattened
+  pub flat : Flat
+  pub is_pinned : IsFixed flattened.flat (fixings flattened.names on.rec design_rec.rec) flat
+  pub physical_segments : Segments
+  pub physical_opens : opened physical ≡ Ok physical_segments
+  pub netlist : NamedPhys
+  pub physical_read : IsPhysRead flattened physical_segments netlist
+  pub names : List Text
+  pub keeps : KeepsNumbers netlist.names names
+  pub accepted : IsAccepted level names on.rec netlist.phys flat
+
+-- No file has changed, and the netlist is accepted.
+pub record HasAccepted (check : Check) (before after : Outside) : Type 0 where
+  pub device : Content
+  pub design : Content
+  pub physical : Content
+  pub read : (files : Files) → before.files ≡ Some files
+      → AreContents files (check.device ∷ check.design ∷ check.physical ∷ [])
+      (device ∷ design ∷ physical ∷ [])
+  pub kept : after.files ≡ before.files
+  pub accepts : Accepts check.level device design physical
+
+-- What it says of a run that it ended with status 0, or that a done job's line wasn't wholly put.
+-- A netlist that is refused is put too, so the line alone doesn't tell that it was accepted.
+abbrev pub IsImplemented : Option Asked → (before after : Outside) → Status → Type 0
+IsImplemented None before after status = ⊥
+IsImplemented (Some (flowing flow)) before after status = HasImplemented flow before after
+IsImplemented (Some (checking check)) before after Done = HasAccepted check before after
+IsImplemented (Some (checking check)) before after status = Unit {0}

@@ -5,6 +5,7 @@ use Rattle.ix_message.specs.Shape.{Struct, Text}
 use Rattle.ix_rec.specs.declared.device.DeviceRec.{DeviceRec}
 use Rattle.ix_rec.specs.declared.flow.Flat.{Flat}
 use Rattle.ix_rec.specs.declared.flow.FlatCell.{FlatCell}
+use Rattle.ix_rec.specs.declared.phys.Phys.{Phys}
 use Rattle.ix_rec.specs.declared.netlist.NetlistRec.{NetlistRec}
 use Rattle.ix_first_fit.specs.declared.fault.FitFault.{FitFault}
 use Rattle.ix_first_fit.specs.declared.fault.FitFault.TheVariants.{TooFewBels, NoSite, Memory}
@@ -15,6 +16,7 @@ use Rattle.ix_report.specs.declared.report.Report.TheVariants.{Bad}
 use Rattle.ix_job.specs.declared.stop.Stop.{Stop}
 use Rattle.ix_job.specs.declared.stop.Stop.TheVariants.{Refused, Memory as NoMemory}
 use Rattle.ix_flow.specs.Answer.{NamedDevice, NamedDesign, NamedFlat, NamedCells}
+use Rattle.ix_flow.specs.CheckAnswer.{NamedPhys}
 use Rattle.ix_flow.specs.Answer.{BreaksReading}
 
 abbrev pub named_device : List Text → DeviceRec → NamedDevice
@@ -28,6 +30,9 @@ named_flat names flat = record { names = names; flat = flat }
 
 abbrev pub named_cells : List Text → List FlatCell → NamedCells
 named_cells names cells = record { names = names; cells = cells }
+
+abbrev pub named_phys : List Text → Phys → NamedPhys
+named_phys names phys = record { names = names; phys = phys }
 
 -- a fault of first fit speaks of a name and of a cell that are there
 abbrev pub IsFaultNamed : List Text → List FlatCell → FitFault → Type 0

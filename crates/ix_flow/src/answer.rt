@@ -1,7 +1,7 @@
 //! The answer to the bytes of a device and a design.
 
 ghost use Rattle.std.specs.Prelude.{◌≡◌, ◌+◌, ◌-◌, ◌^◌, ◌<◌, ◌≤◌, ℕ};
-ghost use Rattle.std.specs.Prelude.{Ok, Err, Some, IfOk};
+ghost use Rattle.std.specs.Prelude.{Ok, Err, Some, IfOk, IfSome};
 ghost use Rattle.std.specs.Prelude.{[], ◌∷◌, List, length, slice_get};
 ghost use Rattle.std.specs.Prelude.{◌&&◌, nat_eq};
 ghost use Rattle.std.specs.FinMap.{len};
@@ -15,6 +15,8 @@ ghost use Rattle.ix_device_read.specs.Named.{DeviceNamed};
 ghost use Rattle.ix_device_read.specs.Records.{device_record};
 ghost use Rattle.ix_rec.specs.Ranges.{IndexesFit};
 ghost use Rattle.ix_phys_write.specs.Record.{IsPhysNamed};
+ghost use Rattle.ix_flat.specs.Range.{IsInRange, IsNamed};
+ghost use Rattle.ix_flat.specs.Whole.{IsWhole};
 ghost use Rattle.ix_first_fit.specs.Named.{CellNamed};
 ghost use Rattle.ix_first_fit.specs.Answers.{IsFitFault};
 ghost use Rattle.ix_job.specs.Chain.{Meets};
@@ -25,7 +27,7 @@ ghost use Rattle.ix_logic_read.specs.Record.{IsNetlistNamed};
 ghost use Rattle.ix_hierarchy.specs.Fits.{NetlistFits};
 ghost use Rattle.ix_flow.specs.Answer.{rule_of, opened, opens, device_in, design_in, placed};
 ghost use Rattle.ix_flow.specs.Answer.{NamedDevice, NamedDesign, IsFlatDesign, flattened, pinned};
-ghost use Rattle.ix_flow.specs.Answer.{unconnected, cells_in};
+ghost use Rattle.ix_flow.specs.Answer.{unconnected, cells_in, BreaksReading};
 ghost use Rattle.ix_flow.specs.Answer.{written, netlist_for, answer_for, answer, implemented};
 ghost use Rattle.ix_flow.specs.Named.{named_device, named_design, named_flat, named_cells};
 ghost use Rattle.ix_flow.specs.Named.{IsFaultNamed, TellsUnread};
@@ -43,7 +45,7 @@ use ix_job::{Content, Outcome, Stop};
 use ix_logic_read::read_netlist;
 use ix_num::{FrameRule, Memory, NameId};
 use ix_phys_write::write_phys;
-use ix_read_laws::{read_devices_fit, read_netlists_fit};
+use ix_read_laws::{devices_stay_named, read_devices_fit, read_netlists_fit};
 use ix_rec::{
     Bytes, DeviceRec, File, Flat, FlatCell, Items, NetlistRec, Phys, Place, ReadFault, Rule, Word,
 };
@@ -81,7 +83,7 @@ fn opened(bytes: &[u8]) -> Result<Frame<'_>, Rule>
 }
 
 #[tactic(auto, unfolding(crate::specs::Answer::opened))]
-fn opened_content(content: &Content) -> Result<Frame<'_>, Rule>
+pub(crate) fn opened_content(content: &Content) -> Result<Frame<'_>, Rule>
     ensures { Finds segments_of result (opened (content_seen content.now)) }
 {
     match content {
@@ -91,7 +93,7 @@ fn opened_content(content: &Content) -> Result<Frame<'_>, Rule>
 }
 
 /// Opens a file, or refuses it for the rule that it breaks as a whole.
-fn open(file: File, content: &Content) -> Result<Frame<'_>, Stop>
+pub(crate) fn open(file: File, content: &Content) -> Result<Frame<'_>, Stop>
     ensures { Meets segments_of (opens file (content_seen content.now)) result }
 {
     match opened_content(content) {
@@ -110,10 +112,12 @@ fn broken(file: File, rule: Rule, place: Place) -> Stop
     Stop::Refused(Report::Bad { file, rule, place })
 }
 
-// The first rule of a frame that a file breaks, and the first index out of its list.
-fn reading_fault(file: File, fault: ReadFault) -> Stop
+/// The first rule that a file breaks as it is read: a rule of its frame, or the first index out of
+/// its list. None where memory is wanting.
+pub(crate) fn broken_reading(fault: ReadFault) -> Option<(Rule, Place)>
     ensures { (message : Struct) (all : Segments)
-        → Refuses fault (reading_in_segments message all) → TellsUnread file message all result }
+        → Refuses fault (reading_in_segments message all)
+        → IfSome result (λ broken. BreaksReading message all broken.0 broken.1) }
 {
     match fault {
         ReadFault::Frame(fault) => {
@@ -121,10 +125,21 @@ fn reading_fault(file: File, fault: ReadFault) -> Stop
                 segment: fault.segment,
                 word: fault.word,
             };
-            broken(file, rule_of(fault.rule), place)
+            Some((rule_of(fault.rule), place))
         }
-        ReadFault::Index(place) => broken(file, Rule::I1, place),
-        ReadFault::Memory => Stop::Memory,
+        ReadFault::Index(place) => Some((Rule::I1, place)),
+        ReadFault::Memory => None,
+    }
+}
+
+// A device or a design is refused for that rule.
+fn reading_fault(file: File, fault: ReadFault) -> Stop
+    ensures { (message : Struct) (all : Segments)
+        → Refuses fault (reading_in_segments message all) → TellsUnread file message all result }
+{
+    match broken_reading(fault) {
+        Some((rule, place)) => broken(file, rule, place),
+        None => Stop::Memory,
     }
 }
 
@@ -145,7 +160,11 @@ fn check_device(alloc: Global, rec: DeviceRec, names: &Names) -> Result<Device, 
 }
 
 /// Reads a device, whose names are added to the names, and asks its rules.
-fn valid_device(alloc: Global, frame: &Frame<'_>, names: &mut Names) -> Result<Device, Stop>
+pub(crate) fn valid_device(
+    alloc: Global,
+    frame: &Frame<'_>,
+    names: &mut Names,
+) -> Result<Device, Stop>
     requires { names.old ≡ [] }
     ensures valid { Meets (named_device names.new) (device_in (segments_of frame.now)) result }
     ensures few { length names.new ≤ 2 ^ 28 + 66 }
@@ -157,7 +176,11 @@ fn valid_device(alloc: Global, frame: &Frame<'_>, names: &mut Names) -> Result<D
 }
 
 /// Reads a design, whose names are added to the names.
-fn read_design(alloc: Global, frame: &Frame<'_>, names: &mut Names) -> Result<NetlistRec, Stop>
+pub(crate) fn read_design(
+    alloc: Global,
+    frame: &Frame<'_>,
+    names: &mut Names,
+) -> Result<NetlistRec, Stop>
     requires { length names.old + 2 ^ 28 + 66 < 2 ^ 32 - 1 }
     ensures read { (d : NamedDevice) → d.names ≡ names.old
         → Meets (named_design names.new) (design_in d (segments_of frame.now)) result }
@@ -175,7 +198,7 @@ fn read_design(alloc: Global, frame: &Frame<'_>, names: &mut Names) -> Result<Ne
 }
 
 /// Flattens a design, whose flat names are added to the names.
-fn flat_design(
+pub(crate) fn flat_design(
     alloc: Global,
     rec: &NetlistRec,
     device: &Device,
@@ -187,6 +210,7 @@ fn flat_design(
     ensures flat { Meets (named_flat names.new)
         (flattened device.now (named_design names.old rec.now)) result }
     ensures keeps { KeepsNumbers names.old names.new }
+    ensures most { length names.new ≤ length names.old + 2 ^ 29 }
 {
     read_netlists_fit();
     read_devices_fit();
@@ -203,7 +227,7 @@ fn flat_design(
 }
 
 /// Fixes the ports of a flat design.
-fn pinned(
+pub(crate) fn pinned(
     alloc: Global,
     rec: &NetlistRec,
     device: &Device,
@@ -213,8 +237,11 @@ fn pinned(
     requires design { (count : ℕ) × NetlistFits count rec.now }
     requires flat { (old : List Text) × IsFlatDesign device.now (named_design old rec.now)
         (named_flat names.now flat) }
-    ensures { (design : NamedDesign) → design.rec ≡ rec.now
+    ensures pinned { (design : NamedDesign) → design.rec ≡ rec.now
         → Meets (λ flat. flat) (pinned device.now design (named_flat names.now flat)) result }
+    ensures range { IfOk result (IsInRange device.now) }
+    ensures named { IfOk result (IsNamed (length names.now)) }
+    ensures whole { IfOk result (IsWhole names.now device.now) }
 {
     match fixed_pins(alloc, rec, device, flat, names) {
         Ok(flat) => Ok(flat),
@@ -388,6 +415,7 @@ fn answer_for(
     ensures { Meets outcome_seen (answer_for (named_device names.old device.now)
         (content_seen design.now)) result }
 {
+    devices_stay_named();
     let frame = open(File::Design, design)?;
     let rec = read_design(alloc, &frame, names)?;
     let cells = cells_in(alloc, &rec, device, names)?;

@@ -2,6 +2,8 @@
 #![tactic(auto)]
 
 mod answer;
+mod check;
+mod check_work;
 mod program;
 mod status;
 mod words;

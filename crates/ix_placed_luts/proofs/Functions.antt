@@ -91,7 +91,7 @@ module _ (rec : DeviceRec) (placement : CellPlacement) (lut : LutCell) (element 
 
   module _ (t b : ℕ) (at : IsInSite rec placement.site placement.bel t b element place is.bel is.shape)
     where
-      lines_seen : on.lines ≡ (as_seen rec placement.site placement.bel t b element place is.bel
+      pub lines_seen : on.lines ≡ (as_seen rec placement.site placement.bel t b element place is.bel
           is.shape at).lines
       lines_seen = is.lines ∙ ap (λ (s : BelSeen). s.lines) (same_Some is.seen _
           (sym is.seen_is ∙ seen_there rec placement.site placement.bel t b element place is.bel
@@ -106,7 +106,7 @@ module _ (rec : DeviceRec) (placement : CellPlacement) (lut : LutCell) (element 
       module _ (nets : List PhysNet) (one other : Held)
           (held : AreHeld rec nets placement.site element on one)
           (also : AreHeld rec nets placement.site element on other) where
-        held_alike : (j : ℕ) → j < length on.lines → (Contains on.places j → ⊥)
+        pub held_alike : (j : ℕ) → j < length on.lines → (Contains on.places j → ⊥)
             → one (slice_index on.lines j) ≡ other (slice_index on.lines j)
         held_alike j below unused =
             let line = there_is on.lines j below in
@@ -132,7 +132,7 @@ module _ (rec : DeviceRec) (placement : CellPlacement) (lut : LutCell) (element 
 module _ (lut : LutPlace) (one other : Held) (alike : (j : ℕ) → j < length lut.lines
     → (Contains lut.places j → ⊥) → one (slice_index lut.lines j) ≡ other (slice_index lut.lines j))
   where
-    agrees_too : (v : ℕ) → Agrees lut one v → Agrees lut other v
+    pub agrees_too : (v : ℕ) → Agrees lut one v → Agrees lut other v
     agrees_too v agrees = record {
       within = agrees.within;
       unused = λ j below unused. subst (λ (t : Tie). Allows t (bit_at v j)) (alike j below unused)
@@ -156,13 +156,13 @@ module _ (rec : DeviceRec) (placement : CellPlacement) (law : PlacesAreOne) (lut
     (element element2 place place2 : ℕ) (on on2 : LutPlace)
     (one : IsLutOn rec placement lut element place on)
     (other : IsLutOn rec placement lut2 element2 place2 on2) where
-  same_lut : lut2 ≡ lut
+  pub same_lut : lut2 ≡ lut
   same_lut = same_Some lut2 lut (sym other.lut_is ∙ one.lut_is)
 
   same_at : Path (ℕ × ℕ) (element2, place2) (element, place)
   same_at = same_Some (element2, place2) (element, place) (sym other.is_in ∙ one.is_in)
 
-  same_element : element2 ≡ element
+  pub same_element : element2 ≡ element
   same_element = ap (λ (p : ℕ × ℕ). p.0) same_at
 
   same_place : place2 ≡ place
@@ -188,7 +188,7 @@ module _ (rec : DeviceRec) (placement : CellPlacement) (law : PlacesAreOne) (lut
       (subst (λ (b : LutBel). MapsInputs lut2 b placement on2.places) same_bel other.inputs))
       one.inputs
 
-  same_on : on2 ≡ on
+  pub same_on : on2 ≡ on
   same_on = same_record on2 on
       (other.low ∙ ap (λ (s : BelSeen). s.low) same_seen ∙ sym one.low)
       (other.lines ∙ ap (λ (s : BelSeen). s.lines) same_seen ∙ sym one.lines) same_places

@@ -69,15 +69,15 @@ taken (suc n) (y ∷ ys) (suc k) x at = let rest = taken n ys k x at in
 module _ (rec : DeviceRec) (placement : CellPlacement) (site t b : ℕ) (lut_bel : LutBel)
     (shape : ElementShape) (place : ℕ) (places : List ℕ)
     (is : IsPlaced rec placement site t b lut_bel shape place places) where
-  in_site : IsInSite rec placement.site placement.bel t b is.element place lut_bel
+  pub in_site : IsInSite rec placement.site placement.bel t b is.element place lut_bel
       (shape_seen shape)
   in_site = placed rec placement site t b is.element place lut_bel (shape_seen shape) is.site_is
       is.type_is is.bel_is is.at is.lut_bel_is is.shape_is
 
-  abbrev bel : BelShape
+  abbrev pub bel : BelShape
   bel = bel_at shape place
 
-  abbrev seen : BelSeen
+  abbrev pub seen : BelSeen
   seen = as_seen rec placement.site placement.bel t b is.element place lut_bel (shape_seen shape)
       in_site
 
@@ -98,7 +98,7 @@ module _ (rec : DeviceRec) (placement : CellPlacement) (site t b : ℕ) (lut_bel
   pub place_inside : place < shape.bel_count
   place_inside = shaped.0
 
-  lines_are : input_lines bel ≡ seen.lines
+  pub lines_are : input_lines bel ≡ seen.lines
   lines_are = ap (λ (s : BelSeen). s.lines) shaped.1
 
   pub all_lines_there : length lut_bel.input_pins ≡ length (input_lines bel)
@@ -124,10 +124,10 @@ module _ (rec : DeviceRec) (placement : CellPlacement) (site t b : ℕ) (lut_bel
         differ = are.differ;
       }
 
-  abbrev on : LutPlace
+  abbrev pub on : LutPlace
   on = lut_on bel places
 
-  is_lut_on : IsLutOn rec placement is.lut is.element place on
+  pub is_lut_on : IsLutOn rec placement is.lut is.element place on
   is_lut_on = record {
     lut_is = is.lut_is;
     is_in = element_there rec placement.site placement.bel t b is.element place lut_bel

@@ -1,5 +1,5 @@
 -- What public contracts say.
 pub mod Laws
--- For private contracts and proofs.
 pub mod Placed
+-- For private contracts and proofs.
 pub mod Tied

@@ -1,4 +1,4 @@
-//! The functions of placed LUTs.
+//! Where LUTs are placed, and their functions.
 #![tactic(auto)]
 
 mod function;
@@ -8,3 +8,4 @@ mod ties;
 
 pub use function::function_of;
 pub use laws::function_is_one;
+pub use placed::{PlacedLut, placed_lut};

@@ -16,7 +16,7 @@ use ix_rec::{CellPlacement, LutBel};
 
 /// A LUT on a BEL of an element.
 #[derive(Drop)]
-pub(crate) struct PlacedLut<'a> {
+pub struct PlacedLut<'a> {
     /// The site.
     pub site: SiteId,
     /// Its type.
@@ -33,9 +33,9 @@ pub(crate) struct PlacedLut<'a> {
     pub inputs: InputPlaces,
 }
 
-/// The LUT that is placed; none exactly where the cell is no LUT, its BEL is in no usable element,
+/// The LUT that is placed, by number; none exactly where the cell is no LUT, its BEL is in no usable element,
 /// or its pin map doesn't have its inputs.
-pub(crate) fn placed_lut<'a>(
+pub fn placed_lut<'a>(
     device: &'a Device,
     places: &LutPlaces,
     placement: &CellPlacement,

@@ -1,1 +1,3 @@
 pub mod NamedFits
+pub mod MoreNames
+pub mod MoreFlats

@@ -4,10 +4,9 @@ ghost use Rattle.std.specs.Prelude.{◌≡◌};
 ghost use Rattle.ix_graph.specs.Graph.{graph_of};
 ghost use Rattle.ix_legal.specs.Legal.{IsSound};
 
-use crate::pieces::joined;
 use crate::reading::{Given, given_by};
 use anyhow::Result;
-use ix_cases::{bytes_of, field};
+use ix_cases::{bytes_of, field, joined};
 use ix_legal::Level;
 use ix_num::Memory;
 use ix_report::{Report, line};
@@ -65,7 +64,7 @@ pub(crate) fn answer_to(alloc: Global, device: &str, netlist: &str, line: &str) 
     text.push_str(": ")?;
     let device = bytes_of(alloc, device)?;
     let base = bytes_of(alloc, netlist)?;
-    let netlist = joined(alloc, &base, field(line, 3))?;
+    let netlist = joined(alloc, &base, field(line, 3), ' ')?;
     put_files(alloc, &mut text, &device, &netlist)?;
     Ok(text)
 }

@@ -14,7 +14,6 @@
 #![tactic(auto)]
 
 mod answer;
-mod pieces;
 mod reading;
 mod timed;
 mod words;

@@ -1,24 +1,27 @@
 //! Files of a memory shelf, given as words `r=NAME`.
 
 use crate::deep::deep_design;
-use ix_cases::{bytes_of, number};
+use ix_cases::{bytes_of, joined, number};
 use ix_shelf::MemShelf;
 use std::alloc::{AllocError, Global};
 use std::{fs, io};
 
 /// The bytes of a file of hexadecimal digits; of the digits themselves where a `#` stands before
-/// them; a design of so many levels where an `@` stands before their number.
+/// them; a design of so many levels where an `@` stands before their number; pieces of a file, with
+/// commas between them, where they stand behind its name and a `:`.
 fn read_hex(rt: &HostRuntime, name: &str) -> io::Result<Vec<u8>> {
     if let Some(levels) = name.strip_prefix('@') {
         return Ok(deep_design(rt.alloc(), number(levels))?);
     }
-    match name.strip_prefix('#') {
-        Some(digits) => Ok(bytes_of(rt.alloc(), digits)?),
-        None => {
-            let digits = fs::read_to_string(rt, name)?;
-            Ok(bytes_of(rt.alloc(), &digits)?)
-        }
+    if let Some(digits) = name.strip_prefix('#') {
+        return Ok(bytes_of(rt.alloc(), digits)?);
     }
+    if let Some((base, pieces)) = name.split_once(':') {
+        let file = bytes_of(rt.alloc(), &fs::read_to_string(rt, base)?)?;
+        return Ok(joined(rt.alloc(), &file, pieces, ',')?);
+    }
+    let digits = fs::read_to_string(rt, name)?;
+    Ok(bytes_of(rt.alloc(), &digits)?)
 }
 
 /// Puts the file of a word on a shelf.

@@ -3,8 +3,8 @@
 //! Each line of `data/cases` has what it shows, what fails, command lines, the files before and the
 //! files after. Words have commas between them, command lines semicolons. A file is written
 //! `r=NAME`, its bytes being the hexadecimal digits of the file NAME of `data`, or `r=#DIGITS`, or
-//! `r=@LEVELS` for a design of so many levels; where no files are given after, they are those
-//! before. What fails is one of
+//! `r=@LEVELS` for a design of so many levels, or `r=NAME:PIECES` for pieces of the file NAME with
+//! commas between them; where no files are given after, they are those before. What fails is one of
 //!
 //! - nothing: `run`;
 //! - the call of the shelf with a number, from 0: `fail 3`; or it takes nothing: `nothing 3`;

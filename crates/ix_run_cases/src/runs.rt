@@ -9,7 +9,7 @@ use std::alloc::{AllocError, Global};
 use std::io;
 
 /// The names of the files that are compared after the runs of a case.
-const NAMES: [&str; 4] = ["d", "n", "r", "x"];
+const NAMES: [&str; 5] = ["d", "n", "p", "r", "x"];
 
 /// Lets a shelf and a sink fail as the words of a case say.
 fn plan(shelf: &mut MemShelf, out: &mut MemSink, words: &str) -> Result<(), AllocError> {

@@ -6,7 +6,6 @@ use Rattle.ix_job.specs.Chains.{exits_first, goes_on}
 use Rattle.ix_flow.specs.Answer.{opens, design_in, cells_in, netlist_for}
 use Rattle.ix_flow.specs.Named.{named_device, named_design, named_cells}
 use Rattle.std.proofs.Common.{refl}
-use Rattle.ix_flow.proofs.Answering.{still_named}
 use Rattle.ix_flow.proofs.answer.answer_for.Goals as goal
 
 pub returns-in_err-frame : goal.returns-in_err-frame
@@ -34,7 +33,7 @@ returns-in_err-rec c =
     (c.in_err-rec.ensures.read (named_device c.args.names.now c.args.device.now) refl))
 
 pub cells_in-requires-clause-device : goal.cells_in-requires-clause-device
-cells_in-requires-clause-device c = still_named c.args.names.now c.read_design.new.names
+cells_in-requires-clause-device c = c.devices_stay_named.ensures c.args.names.now c.read_design.new.names
     c.args.device.now c.in_ok-rec.ensures.keeps c.requires.named
 
 pub returns-in_err-cells : goal.returns-in_err-cells
@@ -56,9 +55,9 @@ returns-in_err-cells c =
     c.from_residual-in_err-cells.ensures.1 c.in_err-cells.ensures.cells))
 
 pub netlist_for-requires-clause-named : goal.netlist_for-requires-clause-named
-netlist_for-requires-clause-named c = still_named c.read_design.new.names c.cells_in.new.names
+netlist_for-requires-clause-named c = c.devices_stay_named.ensures c.read_design.new.names c.cells_in.new.names
     c.args.device.now c.in_ok-cells.ensures.keeps
-    (still_named c.args.names.now c.read_design.new.names c.args.device.now
+    (c.devices_stay_named.ensures c.args.names.now c.read_design.new.names c.args.device.now
     c.in_ok-rec.ensures.keeps c.requires.named)
 
 pub returns : goal.returns

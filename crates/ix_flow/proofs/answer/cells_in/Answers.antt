@@ -38,7 +38,7 @@ returns-in_err-flat-2-clause-cells c =
     (λ flat. unconnected c.flat_design.new.names flat)
     c.in_err-flat-2.field-0.0 c.from_residual-in_err-flat-2.result
     c.from_residual-in_err-flat-2.ensures.1
-    (c.in_err-flat-2.ensures (named_design c.args.names.now c.args.rec.now) refl))
+    (c.in_err-flat-2.ensures.pinned (named_design c.args.names.now c.args.rec.now) refl))
 
 pub returns-clause-cells : goal.returns-clause-cells
 returns-clause-cells c =
@@ -52,7 +52,7 @@ returns-clause-cells c =
     (named_flat c.flat_design.new.names c.in_ok-flat.flat))
     (λ flat. unconnected c.flat_design.new.names flat)
     c.in_ok-flat-2.flat c.unconnected.result
-    (c.in_ok-flat-2.ensures (named_design c.args.names.now c.args.rec.now) refl)
+    (c.in_ok-flat-2.ensures.pinned (named_design c.args.names.now c.args.rec.now) refl)
     (c.unconnected.ensures c.flat_design.new.names))
 
 pub returns-clause-named : goal.returns-clause-named
@@ -60,5 +60,5 @@ returns-clause-named c =
     cells_named c.flat_design.new.names c.in_ok-flat.flat c.in_ok-flat-2.flat
     (fixings c.flat_design.new.names c.args.device.now c.args.rec.now) c.unconnected.result
     c.in_ok-flat.ensures.flat.named
-    (c.in_ok-flat-2.ensures (named_design c.args.names.now c.args.rec.now) refl)
+    (c.in_ok-flat-2.ensures.pinned (named_design c.args.names.now c.args.rec.now) refl)
     (c.unconnected.ensures c.flat_design.new.names)

@@ -1,5 +1,11 @@
 -- Names of a device are names of a longer table too.
-use Rattle.std.proofs.Common.{ℕ, ◌<◌, ◌≤◌, List, [], ◌∷◌, Option, Some, None, lt_of_lt_of_le}
+use Rattle.std.proofs.Common.{◌≡◌, ℕ, ◌<◌, ◌≤◌, List, [], ◌∷◌, length, Option, Some, None, refl}
+use Rattle.std.proofs.Common.{lt_of_lt_of_le, true, false, Bool, nat_lt}
+use Rattle.std.proofs.Math.Nat.{not-suc-le_self}
+use Rattle.std.proofs.lemmas.Option.{slice_get_within, slice_get-get_or}
+use borrow.Author.Tests.{ltb-true, ltb-false}
+use Rattle.ix_message.specs.Shape.{Text}
+use Rattle.ix_strings.specs.Names.{KeepsNumbers}
 use Rattle.std.specs.List.{AllByRecursion}
 use Rattle.ix_message.specs.Records.{IfThere}
 use Rattle.ix_rec.specs.declared.device.BelPin.{BelPin}
@@ -214,7 +220,7 @@ module _ {m n : ℕ} (le : m ≤ n) where
     lut_elements = all_more more_site_type_lut_elements r.lut_elements h.lut_elements;
   }
 
-  pub more_device : (r : DeviceRec) → DeviceNamed m r → DeviceNamed n r
+  more_device : (r : DeviceRec) → DeviceNamed m r → DeviceNamed n r
   more_device r h = record {
     name = up r.name h.name;
     site_type_list = all_more more_site_type r.site_type_list h.site_type_list;
@@ -226,3 +232,18 @@ module _ {m n : ℕ} (le : m ≤ n) where
     constants = there_more more_constants r.constants h.constants;
     lut_definitions = more_lut_definitions r.lut_definitions h.lut_definitions;
   }
+
+-- where each name keeps its number, there are no fewer names
+pub no_fewer : (old new : List Text) → KeepsNumbers old new → length old ≤ length new
+no_fewer old new keeps = by (nat_lt (length new) (length old)) refl
+  where
+    by : (b : Bool) → nat_lt (length new) (length old) ≡ b → length old ≤ length new
+    by true e = absurd (not-suc-le_self (length new)
+        (slice_get_within new (length new) _
+        (keeps (length new) _ (slice_get-get_or old (length new) []
+        (ltb-true (length new) (length old) e)))))
+    by false e = ltb-false (length new) (length old) e
+
+pub still_named : (old new : List Text) (rec : DeviceRec) → KeepsNumbers old new
+    → DeviceNamed (length old) rec → DeviceNamed (length new) rec
+still_named old new rec keeps h = more_device (no_fewer old new keeps) rec h

@@ -1,0 +1,3 @@
+pub mod Functions
+pub mod Differing
+pub mod Telling

@@ -1,0 +1,6 @@
+mod Firsts
+mod Keyed
+mod Pinned
+mod Printed
+mod Differing
+mod Turns

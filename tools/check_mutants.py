@@ -12,6 +12,7 @@ one, or by moving a branch below another one of its net, to the sources or to th
 """
 import copy
 import sys
+from itertools import islice
 from pathlib import Path
 
 import check_cases
@@ -85,28 +86,34 @@ def moves(netlist, path):
             yield (*other, "branches")
 
 
-def mutants(netlist):
-    """The mutants of a netlist: what is done, and the text."""
+def moved(netlist, path, target):
+    into, branch = inside(netlist, target), inside(netlist, path)
+    into.append(branch)
+    at = inside(netlist, path[:-1])
+    del at[next(i for i, it in enumerate(at) if it is branch)]
+
+
+def changes(netlist):
+    """What may be done to a netlist: what it is, and a function that does it to a copy."""
     names = names_by_field(netlist)
     for path, value in each(netlist):
         if isinstance(value, list):
             for what, change in list_changes(path, value):
-                new = copy.deepcopy(netlist)
-                change(inside(new, path))
-                yield what, new
+                yield what, lambda new, path=path, change=change: change(inside(new, path))
         elif path and not isinstance(value, dict):
             for other in other_values(path[-1], value, names):
-                new = copy.deepcopy(netlist)
-                inside(new, path[:-1])[path[-1]] = other
-                yield f"put {told(path)} {other}", new
+                yield f"put {told(path)} {other}", lambda new, path=path, other=other: inside(new, path[:-1]).update({path[-1]: other})
         elif isinstance(value, dict) and "branches" in value:
             for target in moves(netlist, path):
-                new = copy.deepcopy(netlist)
-                into, branch = inside(new, target), inside(new, path)
-                into.append(branch)
-                at = inside(new, path[:-1])
-                del at[next(i for i, it in enumerate(at) if it is branch)]
-                yield f"move {told(path)} to {told(target)}", new
+                yield f"move {told(path)} to {told(target)}", lambda new, path=path, target=target: moved(new, path, target)
+
+
+def mutants(netlist, every=1):
+    """Each mutant, or each so-manieth: what is done, and the text."""
+    for what, change in islice(changes(netlist), 0, None, every):
+        new = copy.deepcopy(netlist)
+        change(new)
+        yield what, new
 
 
 def answers(device, design, netlist):
@@ -114,7 +121,7 @@ def answers(device, design, netlist):
 
 
 def cases_of(device, design, base, netlist, every):
-    made = list(mutants(netlist))[::every]
+    made = list(mutants(netlist, every))
     strings = strings_of([netlist] + [it for _, it in made])
     file = encoded(netlist, strings)
     yield base, file

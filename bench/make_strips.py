@@ -1,7 +1,7 @@
 #!/usr/bin/env python3
 """Writes a device and a netlist of so many segments that keeps every rule on it.
 
-usage: make_strips.py SHAPE SEGMENTS DEVICE NETLIST
+usage: make_strips.py SHAPE SEGMENTS DEVICE NETLIST [DESIGN]
 
 SHAPE is one of these; the fabrics of other devices hold far fewer segments.
 
@@ -12,6 +12,8 @@ SHAPE is one of these; the fabrics of other devices hold far fewer segments.
 - `row`: one net, all segments but the first two side by side, from a node that all tiles share.
 - `single`: nets of one segment, 1,000 at each cell.
 - `sparse`: nets of one segment, each at a cell of its own, whose BEL has 1,000 pins.
+
+DESIGN is the design that the netlist of `strips` realizes; the others are nets without sinks, which no design has.
 """
 import struct
 import sys
@@ -198,6 +200,11 @@ class Netlist:
         return objects.file()
 
 
+def table_of(i):
+    """The truth table of the LUT of a site."""
+    return i * 7 % 16
+
+
 def strips_netlist(tiles):
     sites = [f"S{t}_{k}" for t in range(tiles) for k in range(OF_TILE)]
     netlist = Netlist([], 2 * len(sites) + 1)
@@ -220,7 +227,7 @@ def strips_netlist(tiles):
         cells.append((f"cell_l{i}", "LUT2", site, "L", [("I0", "A"), ("I1", "B"), ("O", "O")]))
         cells.append((f"cell_f{i}", "FD", site, "FF", [("D", "D"), ("Q", "Q")]))
         # What stands above the fourth bit is read by no LUT, since gnd holds the third input.
-        tables.append((f"TABLE/{site}/0", f"{i % 16 << 4 | i * 7 % 16:016X}"))
+        tables.append((f"TABLE/{site}/0", f"{i % 16 << 4 | table_of(i):016X}"))
     roots = [(PIP, f"T{t}", "G", f"c{k}") for t in range(tiles) for k in range(OF_TILE)]
     for place, site in zip(netlist.branches(netlist.net("GLOBAL_LOGIC0", GND), *roots), sites):
         netlist.trunk(place, (SITE_PIN, site, "c"))
@@ -250,6 +257,53 @@ def single_netlist(tiles, nets_of_cell):
     return netlist, netlist.file(cells, [f"S{t}" for t in range(tiles)], "MANY", [])
 
 
+# The design.
+
+
+def strips_design(sites):
+    """A cell of a LUT and a flip-flop a site; a LUT feeds its flip-flop, and both feed the next LUT."""
+    objects, names = Objects(8), {}
+    slots = [8 + 8 * i for i in range(8)]
+
+    def number(name):
+        return names.setdefault(name, len(names))
+
+    kinds = [("top", []), ("LUT2", [("I0", 0), ("I1", 0), ("O", 1)]), ("FD", [("D", 0), ("Q", 1)])]
+    first = objects.structs(slots[4], len(kinds), 1, 1)
+    count = 0
+    for i, (name, ports) in enumerate(kinds):
+        struct.pack_into("<I", objects.words, first + 16 * i, number(name))
+        objects.numbers(first + 16 * i + 8, range(count, count + len(ports)))
+        count += len(ports)
+    lut_a, lut_b, lut_out, data, out = range(count)
+    first = objects.structs(slots[5], count, 3, 1)
+    for i, (name, way) in enumerate(port for _, ports in kinds for port in ports):
+        struct.pack_into("<2I", objects.words, first + 32 * i, number(name), way)
+    first = objects.structs(slots[6], 2 * sites, 1, 1)
+    for i in range(sites):
+        struct.pack_into("<2I", objects.words, first + 32 * i, number(f"cell_l{i}"), 1)
+        struct.pack_into("<2I", objects.words, first + 32 * i + 16, number(f"cell_f{i}"), 2)
+        entry = objects.structs(objects.struct(first + 32 * i + 8, 0, 1), 1, 2, 0)
+        struct.pack_into("<3I", objects.words, entry, number("INIT"), 0, number(f"4'h{table_of(i):X}"))
+    cell = objects.structs(slots[7], 1, 1, 2)
+    objects.numbers(cell + 8, range(2 * sites))
+    first = objects.structs(cell + 16, 2 * sites, 1, 1)
+    for i in range(sites):
+        lut, flip_flop, following = 2 * i, 2 * i + 1, 2 * ((i + 1) % sites)
+        nets = [
+            (f"lut{i}", [(lut_out, lut), (data, flip_flop), (lut_a, following)]),
+            (f"ff{i}", [(out, flip_flop), (lut_b, following)]),
+        ]
+        for k, (name, ends) in enumerate(nets):
+            at = first + 32 * i + 16 * k
+            struct.pack_into("<I", objects.words, at, number(name))
+            pins = objects.structs(at + 8, len(ends), 3, 0)
+            for j, (port, owner) in enumerate(ends):
+                struct.pack_into("<5I", objects.words, pins + 24 * j, port, 0, 0, 1, owner)
+    objects.texts(slots[3], list(names))
+    return objects.file()
+
+
 def main():
     shape, segments, *paths = sys.argv[1], int(sys.argv[2]), *sys.argv[3:]
     of_tile = {"strips": OF_STRIP * OF_TILE, "chain": OF_LINE, "row": OF_LINE, "single": OF_CELL, "sparse": 1}[shape]
@@ -261,7 +315,10 @@ def main():
     else:
         made, (netlist, file) = lines_device(tiles), line_netlist(segments, shape == "chain")
     first = message.encode(SCHEMA, made)
-    for path, data in zip(paths, (first, file)):
+    files = [first, file]
+    if len(paths) > 2:
+        files.append(strips_design(tiles * OF_TILE))
+    for path, data in zip(paths, files):
         Path(path).write_bytes(data)
     print(f"{netlist.segments} segments, {len(first)} and {len(file)} bytes")
 

@@ -34,5 +34,12 @@ class Objects:
         self.words += bytes(8 * count * (data + pointers))
         return first
 
+    def struct(self, at, data, pointers):
+        """A struct of zeros; gives where it stands."""
+        struct.pack_into("<2I", self.words, at, (len(self.words) - at - 8) // 8 << 2, data | pointers << 16)
+        place = len(self.words)
+        self.words += bytes(8 * (data + pointers))
+        return place
+
     def file(self):
         return struct.pack("<2I", 0, len(self.words) // 8) + self.words

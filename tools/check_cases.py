@@ -427,6 +427,12 @@ def main():
         RUNS / "data" / "joined_sinks": (TOP / "crates" / "ix_device_cases" / "data" / "joined_sinks").read_text(encoding="utf8"),
     }
     cases = list(all_cases(files))
+    # It makes its mutants of the netlists here.
+    import check_mutants
+
+    for name, file, its in check_mutants.cases_of_legal():
+        files[RUNS / "data" / name] = file.hex() + "\n"
+        cases += its
     before = (RUNS / "data" / "cases").read_text(encoding="utf8").partition(HEAD)[0]
     count = sum(bool(line) and not line.startswith("#") for line in before.split("\n"))
     answers = (RUNS / "stdout").read_text(encoding="utf8").split("\n")[:count]

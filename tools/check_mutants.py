@@ -151,18 +151,37 @@ def write(folder, every):
 
 
 def legal():
-    for device, design, base, netlist in NETLISTS:
+    """Each mutant of the small netlists that is accepted at one of the levels, with its netlist."""
+    for of in NETLISTS:
+        device, design, _, netlist = of
         for what, mutant in mutants(netlist):
             told_of = answers(device, design, mutant)
             if any(it.startswith("yes") for it in told_of):
-                yield f"{base}: {what}", device, design, base, mutant, told_of
+                yield of, what, mutant, told_of
+
+
+def cases_of_legal():
+    """The same as cases of the program, with the files that they are pieces of: (name, file, cases)."""
+    found = list(legal())
+    for of in NETLISTS:
+        device, design, base, netlist = of
+        its = [(what, mutant, told_of) for it, what, mutant, told_of in found if it is of]
+        strings = strings_of([netlist] + [mutant for _, mutant, _ in its])
+        name, file = f"{base}_stays_legal", encoded(netlist, strings)
+        cases = []
+        for what, mutant, told_of in its:
+            shows = f"{base}, still legal: {what}"
+            new = pieces(file, encoded(mutant, strings)).replace(" ", ",")
+            line = f"{shows} | run | check,d,n,p;check,d,n,p,--placed | d={device} n={design} p={name}:{new}"
+            cases.append((line, f"{shows}: " + "; ".join(map(exit_line, told_of))))
+        yield name, file, cases
 
 
 def main():
     words = sys.argv[1:]
     if words[:1] == ["legal"] and len(words) == 1:
-        for shows, *_, told_of in legal():
-            print(f"{shows}: {'; '.join(told_of)}")
+        for (_, _, base, _), what, _, told_of in legal():
+            print(f"{base}: {what}: {'; '.join(told_of)}")
     elif words[:1] == ["compare"] and len(words) == 3:
         wanted, printed = [Path(it).read_text().splitlines() for it in (f"{words[1]}/wanted", words[2])]
         differ = [(a, b) for a, b in zip(wanted, printed) if a != b]

@@ -1,7 +1,8 @@
 #!/usr/bin/env bash
 # Works out the answers to cases anew, by programs apart from ours, and compares them with the stored output of the programs
 # that try the cases: LUT elements, occupancy, ports with groups and counts, words of command lines, least paths, physical
-# and logical netlists, flat designs, rules of physical netlists, what `check` prints; where rustc is there also paths in the node graph of a device.
+# and logical netlists, flat designs, rules of physical netlists, what `check` prints; where rustc is there also paths in the
+# node graph of a device.
 set -u
 top=$(cd "$(dirname "$0")/.." && pwd) || exit 1
 command -v python3 >/dev/null || { echo "check-answers: skipped, there is no python3"; exit 0; }

@@ -18,7 +18,10 @@ OUTPUTS = [f"{x}{end}" for x in SLOTS for end in ("", "M", "Q")]
 
 
 def site_type(name, bels, site_pins, wires, site_pips):
-    """A BEL is (name, category, its pins); a wire's pins and those of a site PIP are written BEL.PIN."""
+    """A site type. A BEL is (name, category, pins), a site pin (name, direction), a pin of a wire or a site PIP BEL.PIN.
+
+    Each site pin has a BEL of its name, whose one pin has that name too and goes the other way.
+    """
     bels = bels + [(pin, PORT, [(pin, IN + OUT - direction)]) for pin, direction in site_pins]
     pins = [(bel, pin, direction) for bel, _, its in bels for pin, direction in its]
     number = {f"{bel}.{pin}": i for i, (bel, pin, _) in enumerate(pins)}

@@ -5,9 +5,10 @@ usage: make.py [FOLDER]
 
 Writes device.bin, design.bin, netlist.bin and broken.bin into FOLDER, or beside this script. The device is the small one of
 tools/cases/joined_sinks.device.json: one tile with two driving sites s0 and s1, two driven ones t0 and t1, and a wire X
-between them that PIPs lead to and from. In the design a driver `d0` is joined to two loads, `e0` and `e1`. The netlist has
-d0 on s0, and the loads on t0 and t1: its net leaves the site, goes by one PIP to X and by another to the node of both
-loads' pins, and enters both sites. In the broken one the branch into t1 is left out, so the pin I of e1 is on no net.
+between them that PIPs lead to and from. In the design a driver `d0` is joined to two loads, `e0` and `e1`. The netlist,
+`SINKS` of tools/check_cases.py, has d0 on s0, and the loads on t0 and t1: its net leaves the site, goes by one PIP to X and
+by another to the node of both loads' pins, and enters both sites. In the broken one the branch into t1 is left out, so the
+pin I of e1 is on no net.
 """
 import json
 import sys
@@ -17,11 +18,15 @@ HERE = Path(__file__).resolve().parent
 TOP = HERE.parent.parent
 sys.path.insert(0, str(TOP / "tools"))
 import message  # noqa: E402
-from phys_texts import bel_pin, cell, instances, net, pip, site_pin  # noqa: E402
+from check_cases import SINKS  # noqa: E402
+from phys_texts import cut  # noqa: E402
+from rules_cases import changed  # noqa: E402
 
 SCHEMAS = TOP / "examples" / "schema"
 IN, OUT, ONE_BIT = 0, 1, 0
 OF_INSTANCE = 1
+# The segment of the net that enters the site t1.
+INTO_T1 = 6
 
 
 def port(name, direction):
@@ -46,23 +51,6 @@ DESIGN = {
 }
 
 
-def netlist(*sites):
-    """A netlist whose net enters these of the sites of loads."""
-    loads = [site_pin(site, "I", bel_pin(site, "IB", "I")) for site in sites]
-    return {
-        "part": "M4",
-        "placements": [
-            cell("d0", "DRV", "s0", "OB", "O=O"),
-            cell("e0", "LOAD", "t0", "IB", "I=I"),
-            cell("e1", "LOAD", "t1", "IB", "I=I"),
-        ],
-        "physNets": [
-            net("n0", bel_pin("s0", "OB", "O", site_pin("s0", "O", pip("M0", "S0", "X", pip("M0", "X", "T0", *loads))))),
-        ],
-        "siteInsts": instances(s0="SRC", t0="SNK", t1="SNK"),
-    }
-
-
 def main():
     if len(sys.argv) > 2 or sys.argv[1:2] in (["-h"], ["--help"]):
         sys.exit(__doc__)
@@ -71,8 +59,8 @@ def main():
     files = {
         "device": ("device", device),
         "design": ("netlist", DESIGN),
-        "netlist": ("phys", netlist("t0", "t1")),
-        "broken": ("phys", netlist("t0")),
+        "netlist": ("phys", SINKS),
+        "broken": ("phys", changed(SINKS, [cut(0, INTO_T1)])),
     }
     for name, (kind, text) in files.items():
         (folder / f"{name}.bin").write_bytes(message.encode(SCHEMAS / f"{kind}.capnp", text))

@@ -33,6 +33,7 @@ TOP = Path(__file__).resolve().parent.parent.parent
 sys.path.insert(0, str(TOP / "tools"))
 import design_text  # noqa: E402
 import message  # noqa: E402
+from many_clbs import site_type  # noqa: E402
 
 PAGE = TOP / "docs" / "RULES.md"
 SCHEMAS = TOP / "examples" / "schema"
@@ -44,24 +45,6 @@ LEAVES = {"IBUF": "in I, out O", "OBUF": "in I, out O"}
 
 
 # ---- the small device ----
-
-
-def site_type(name, bels, site_pins, wires, site_pips):
-    """A site type. A BEL is (name, category, pins), a site pin (name, direction), a pin of a wire or a site PIP BEL.PIN.
-
-    Each site pin has a BEL of its name, whose one pin has that name too and goes the other way.
-    """
-    bels = bels + [(pin, PORT, [(pin, IN if direction == OUT else OUT)]) for pin, direction in site_pins]
-    pins = [(bel, pin, direction) for bel, _, its in bels for pin, direction in its]
-    number = {f"{bel}.{pin}": i for i, (bel, pin, _) in enumerate(pins)}
-    return {
-        "name": name,
-        "belPins": [{"name": pin, "dir": direction, "bel": bel} for bel, pin, direction in pins],
-        "pins": [{"name": pin, "dir": direction, "belpin": number[f"{pin}.{pin}"]} for pin, direction in site_pins],
-        "bels": [{"name": bel, "category": category} for bel, category, _ in bels],
-        "sitePIPs": [{"inpin": number[a], "outpin": number[b]} for a, b in site_pips],
-        "siteWires": [{"name": wire, "pins": [number[pin] for pin in its]} for wire, its in wires],
-    }
 
 
 SLICE = site_type(
